@@ -1,13 +1,22 @@
-// A library with one function.
+//! The outside as traits: files that are read whole under a cap, and a sink that takes bytes. Each
+//! trait has a fake in memory, whose bytes contracts can name, and an adapter to the host, which
+//! tells no bytes.
 #![tactic(auto)]
 
-ghost use Rattle.std.specs.Prelude.{◌≡◌};
-ghost use Rattle.og_io.specs.Echo.{echo_of};
+mod faults;
+mod files;
+mod host;
+mod mem_files;
+mod mem_sink;
+mod names;
+mod sink;
 
-// The `ensures` clause is the contract: what `echo` returns is `echo_of` of its argument, a definition
-// in `specs/Echo.antt`, which a caller's clause can cite too.
-pub fn echo(x: usize) -> usize
-    ensures { result ≡ echo_of x }
-{
-    x
-}
+pub use faults::{LoadFault, PutFault};
+pub use files::Files;
+pub use host::{HostFiles, HostSink};
+pub use mem_files::MemFiles;
+pub use mem_sink::MemSink;
+pub use sink::Sink;
+
+#[cfg(test)]
+mod tests;

@@ -1,4 +1,4 @@
-ghost use Rattle.std.specs.Prelude.{◌≡◌, ◌<◌, ◌↔◌, [], ◌∷◌, ◌++◌, length, slice_get, IsTrue, IfErr, IfOk, OnErr, OnOk, OnSome};
+ghost use Rattle.std.specs.Prelude.{◌≡◌, ◌<◌, ◌↔◌, [], ◌∷◌, ◌++◌, length, slice_get, IsTrue, MatchOption, IfErr, OnErr, OnOk, OnSome};
 ghost use Rattle.std.specs.Option.{option_copied};
 
 use std::alloc::{AllocError, Global};
@@ -43,6 +43,13 @@ impl<T> List<T> {
         }
     }
 
+    /// Takes the last item off, or answers `None` where there is none.
+    pub fn pop(&mut self) -> Option<T>
+        ensures { MatchOption result ((self.old ≡ []) × (self.new ≡ [])) (λ last. self.old ≡ self.new ++ last ∷ []) }
+    {
+        self.held.pop()
+    }
+
     /// How many items the list has.
     pub fn len(&self) -> usize
         ensures { result ≡ length self.now }
@@ -70,6 +77,16 @@ impl<T> List<T> {
         ensures { result.now ≡ self.now }
     {
         self.held.as_slice()
+    }
+}
+
+impl<T: Copy> List<T> {
+    /// Adds all of `items` at the end, in order. A refusal is for want of memory, and changes nothing.
+    pub fn extend_from_slice(&mut self, items: &[T]) -> Result<(), AllocError>
+        ensures ok { OnOk result (self.new ≡ self.old ++ items.now) }
+        ensures refused { OnErr result (self.new ≡ self.old) }
+    {
+        self.held.extend_from_slice(items)
     }
 }
 

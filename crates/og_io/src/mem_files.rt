@@ -1,0 +1,132 @@
+ghost use Rattle.std.specs.Prelude.{◌≡◌, ℕ, List, [], ◌∷◌, ◌++◌, ◌⊎◌, Option, Some, None, IsTrue, IfOk, OnOk, OnErr, length, map};
+ghost use Rattle.std.specs.Option.{option_copied};
+ghost use Rattle.og_io.specs.Outside.{CountsFaults, Loads, OnlyMoves};
+ghost use Rattle.og_io.specs.Names.{times};
+ghost use Rattle.og_io.specs.Fakes.{bytes_under, next_call, is_told, Answers};
+
+use crate::names::{forget, note};
+use crate::{Files, LoadFault};
+use og_list::{List, Text};
+use std::alloc::{AllocError, Global};
+use std::marker::Model;
+
+/// Files in memory, for tests. A read answers the bytes last added under its name, unless its number
+/// was told to fail.
+#[derive(Debug, Drop)]
+pub struct MemFiles {
+    files: List<(Text, List<u8>)>,
+    failing: List<u32>,
+    calls: u64,
+    failed: List<Text>,
+}
+
+impl Model for MemFiles {
+    ghost use Rattle.og_io.specs.Fakes.{Store};
+
+    ghost Value = { Store };
+
+    ghost view = { λ m. record { files = m.files; failing = m.failing; calls = m.calls; failed = m.failed } };
+}
+
+impl MemFiles {
+    /// No file, and no call that is to fail.
+    pub fn new(alloc: Global) -> MemFiles
+        ensures { result ≡ record { files = []; failing = []; calls = 0; failed = [] } }
+    {
+        MemFiles {
+            files: List::new(alloc),
+            failing: List::new(alloc),
+            calls: 0,
+            failed: List::new(alloc),
+        }
+    }
+
+    /// Adds a file. It stands in place of an earlier one of the same name. A refusal changes nothing.
+    pub fn add(&mut self, alloc: Global, name: &str, bytes: &[u8]) -> Result<(), AllocError>
+        ensures ok { OnOk result (self.new ≡ record self.old { files = self.old.files ++ (name.now, bytes.now) ∷ [] }) }
+        ensures refused { OnErr result (self.new ≡ self.old) }
+    {
+        let name = Text::from(alloc, name)?;
+        let mut held = List::new(alloc);
+        held.extend_from_slice(bytes)?;
+        self.files.add((name, held))
+    }
+
+    /// The load with this number, counted from 1, is to fail. A refusal changes nothing.
+    pub fn fail(&mut self, call: u32) -> Result<(), AllocError>
+        ensures ok { OnOk result (self.new ≡ record self.old { failing = self.old.failing ++ call ∷ [] }) }
+        ensures refused { OnErr result (self.new ≡ self.old) }
+    {
+        self.failing.add(call)
+    }
+}
+
+/// The bytes last added under the name.
+fn find<'a>(files: &'a [(Text, List<u8>)], name: &str) -> Option<&'a List<u8>>
+    ensures { option_copied result ≡ bytes_under files.now name.now }
+{
+    let mut found = None;
+    'files: for file in files {
+        if file.0.as_str() == name {
+            found = Some(&file.1);
+        }
+    }
+    found
+}
+
+/// Whether the call with this number was told to fail.
+fn is_told(failing: &[u32], call: u64) -> bool
+    ensures { result ≡ is_told failing.now call }
+{
+    failing.iter().any(|told| u64::from(*told) == call)
+}
+
+/// What a load answers.
+fn answer(
+    files: &[(Text, List<u8>)],
+    is_told: bool,
+    alloc: Global,
+    name: &str,
+    cap: usize,
+) -> Result<Vec<u8>, LoadFault>
+    ensures answers { Answers is_told (bytes_under files.now name.now) cap result }
+    ensures bytes { Loads (bytes_under files.now name.now) cap result }
+{
+    if is_told {
+        return Err(LoadFault::Failed);
+    }
+    match find(files, name) {
+        None => Err(LoadFault::Failed),
+        Some(bytes) if bytes.len() > cap => Err(LoadFault::Long),
+        Some(bytes) => Vec::from_slice(alloc, bytes.as_slice()).map_err(|_| LoadFault::Memory),
+    }
+}
+
+impl Files for MemFiles {
+    ghost held = { λ m name. bytes_under m.files name };
+
+    ghost faults = { λ m name. times m.failed name };
+
+    fn load(&mut self, alloc: Global, name: &str, cap: usize) -> Result<Vec<u8>, LoadFault>
+        ensures held { (other : List ℕ) → bytes_under self.new.files other ≡ bytes_under self.old.files other }
+        ensures moved { OnlyMoves name.now (times self.old.failed) (times self.new.failed) }
+        ensures counted { CountsFaults name.now (times self.old.failed) (times self.new.failed) result }
+        ensures bytes { Loads (bytes_under self.old.files name.now) cap result }
+        ensures number { self.new.calls ≡ next_call self.old.calls }
+        ensures answers { Answers (is_told self.old.failing self.new.calls) (bytes_under self.old.files name.now) cap result }
+    {
+        self.calls = self.calls.saturating_add(1);
+        let call = self.calls;
+        if note(&mut self.failed, alloc, name).is_err() {
+            return Err(LoadFault::Memory);
+        }
+        let is_told = is_told(self.failing.as_slice(), call);
+        match answer(self.files.as_slice(), is_told, alloc, name, cap) {
+            Err(LoadFault::Failed) => Err(LoadFault::Failed),
+            other => {
+                forget(&mut self.failed);
+                other
+            }
+        }
+    }
+}
