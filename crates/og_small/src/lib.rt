@@ -1,6 +1,12 @@
 //! Small games: one block of decisions, each paid by a table over the decisions' outputs.
 #![tactic(auto)]
 
+mod deviations;
+mod pay;
+mod report;
+mod rules;
 mod tree;
 
+pub use deviations::Deviation;
+pub use report::{Report, report_on};
 pub use tree::{Key, Line, Row, Section, SmallGame, TypeDecl};
