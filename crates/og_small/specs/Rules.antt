@@ -44,27 +44,39 @@ joint (column ∷ columns) = flat_map (λ name. map (λ names. name ∷ names) (
 abbrev pub columns_of : List TypeDecl → List Key → List (List (List ℕ))
 columns_of types keys = map (λ key. option_map_or (λ cases. cases) (cases_of types key.action) []) keys
 
--- one row for each joint key, and no other row
-abbrev pub is_complete : List (List (List ℕ)) → List (List (List ℕ)) → Bool
-is_complete keys rows =
-    list_all (λ key. count_by (λ row. same_names row key) rows == 1) keys
-    && list_all (λ row. list_any (λ key. same_names row key) keys) rows
+-- how many rows there are for a joint key
+abbrev pub rows_at : List Row → List (List ℕ) → ℕ
+rows_at rows key = count_by (λ row. same_names row.cases key) rows
 
+-- one row for each joint key, and no other row
+abbrev pub is_complete : List (List (List ℕ)) → List Row → Bool
+is_complete keys rows =
+    list_all (λ key. rows_at rows key == 1) keys
+    && list_all (λ row. list_any (λ key. same_names row.cases key) keys) rows
+
+-- every key is of a declared type, and is the output of some line, with that line's type
+abbrev pub are_keys_good : SmallGame → List Key → Bool
+are_keys_good g keys = list_all (λ key. is_some (cases_of g.types key.action) && is_output g.lines key) keys
+
+-- the line's type is declared, and its table is good
 abbrev pub is_line_accepted : SmallGame → Line → Bool
 is_line_accepted g line =
     is_some (cases_of g.types line.action)
     && nat_le (length line.keys) 4
-    && list_all (λ key. is_some (cases_of g.types key.action) && is_output g.lines key) line.keys
+    && are_keys_good g line.keys
     && list_all (λ row. nat_lt row.pay (2 ^ 63)) line.rows
-    && is_complete (joint (columns_of g.types line.keys)) (map (λ row. row.cases) line.rows)
+    && is_complete (joint (columns_of g.types line.keys)) line.rows
+
+-- the game gives each name once, and none of them is `main`
+abbrev pub are_names_good : SmallGame → Bool
+are_names_good g = all_differ (given_names g) && not (has_name (given_names g) (codes "main"))
 
 -- what a small game has to be beyond its form
 abbrev pub is_accepted : SmallGame → Bool
 is_accepted g =
     nat_le (length g.lines) 4
     && list_all (λ t. nat_le (length t.cases) 8) g.types
-    && all_differ (given_names g)
-    && not (has_name (given_names g) (codes "main"))
+    && are_names_good g
     && list_all (is_line_accepted g) g.lines
 
 -- the section names the line's agent, and a case of its type

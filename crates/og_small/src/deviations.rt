@@ -1,6 +1,7 @@
 ghost use Rattle.std.specs.Prelude.{◌≡◌, ◌<◌, ◌++◌, [], List, flat_map, option_to_list, slice_set, IfOk, OnOk};
 ghost use Rattle.og_small.specs.Meaning.{choices_of, deviation, deviations_at, deviations};
 
+use crate::copies::{copy_name, copy_names};
 use crate::pay::total;
 use crate::rules::cases_of;
 use crate::{Line, Section, SmallGame};
@@ -16,26 +17,6 @@ pub struct Deviation {
     pub action: List<u8>,
     /// By how much the agent's total rises. It is above 0.
     pub gain: u128,
-}
-
-/// A name of its own.
-pub fn copy_name(alloc: Global, name: &[u8]) -> Result<List<u8>, AllocError>
-    ensures { IfOk result (λ made. made ≡ name.now) }
-{
-    let mut made = List::new(alloc);
-    made.extend_from_slice(name)?;
-    Ok(made)
-}
-
-/// Names of their own.
-fn copy_names(alloc: Global, names: &[List<u8>]) -> Result<List<List<u8>>, AllocError>
-    ensures { IfOk result (λ made. made ≡ names.now) }
-{
-    let mut made = List::new(alloc);
-    'names: for name in names {
-        made.add(copy_name(alloc, name.as_slice())?)?;
-    }
-    Ok(made)
 }
 
 /// What the sections choose.

@@ -1,6 +1,7 @@
 //! Small games: one block of decisions, each paid by a table over the decisions' outputs.
 #![tactic(auto)]
 
+mod copies;
 mod deviations;
 mod pay;
 mod report;
@@ -8,5 +9,6 @@ mod rules;
 mod tree;
 
 pub use deviations::Deviation;
+pub use rules::{accepts, fits};
 pub use report::{Report, report_on};
 pub use tree::{Key, Line, Row, Section, SmallGame, TypeDecl};

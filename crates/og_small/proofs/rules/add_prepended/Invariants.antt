@@ -1,0 +1,7 @@
+use Rattle.std.proofs.Common.{◌≡◌, ◌≤◌, ◌++◌, ◌∷◌, [], take, drop, length, map}
+use Rattle.std.specs.Prelude.{flat_map}
+use Rattle.og_small.specs.Rules.{columns_of, joint}
+use Rattle.og_small.proofs.rules.add_prepended.Given as goal
+
+abbrev pub invariant-rest : goal.invariant-rest
+invariant-rest l = l.all ≡ l.initial.all ++ map (λ names. l.name ∷ names) (take l.names-index l.rest)

@@ -1,0 +1,7 @@
+use Rattle.std.proofs.Common.{◌≡◌, ◌≤◌, ◌++◌, ◌∷◌, [], take, drop, length, map}
+use Rattle.std.specs.Prelude.{flat_map}
+use Rattle.og_small.specs.Rules.{columns_of, joint}
+use Rattle.og_small.proofs.rules.crossed.Given as goal
+
+abbrev pub invariant-column : goal.invariant-column
+invariant-column l = l.all ≡ flat_map (λ name. map (λ names. name ∷ names) l.rest) (take l.name-index l.column)

@@ -1,0 +1,10 @@
+use Rattle.std.proofs.Common.{◌≡◌, ◌≤◌, ◌++◌, ◌∷◌, [], take, drop, length, map}
+use Rattle.std.specs.Prelude.{flat_map}
+use Rattle.og_small.specs.Rules.{columns_of, joint}
+use Rattle.og_small.proofs.rules.joint.Given as goal
+
+abbrev pub invariant-columns : goal.invariant-columns
+invariant-columns l = (l.all ≡ joint (drop l.left l.columns)) × (l.left ≤ length l.columns)
+
+abbrev pub decreases-columns : goal.decreases-columns
+decreases-columns l = l.left
