@@ -1,0 +1,135 @@
+ghost use Rattle.std.specs.Prelude.{◌≡◌, ℕ, List, ◌≤◌, ◌⊎◌, Some, None, IfOk, OnOk, map, string_bytes};
+ghost use Rattle.og_io.specs.Outside.{NoneRose, OnlyMoves};
+ghost use Rattle.og_tool.specs.Words.{named};
+ghost use Rattle.og_tool.specs.Answer.{BadStrategy, Reports, Intends, MovesNamed};
+ghost use Rattle.og_tool.specs.Steps.{StepsToGame, StepsToStrategy};
+
+use crate::Status;
+use crate::fetch::{Fetched, fetch};
+use crate::read::{game_of, strategy_of};
+use og_io::Files;
+use og_list::List;
+use og_small::{SmallGame, fits, report_on};
+use std::alloc::{AllocError, Global};
+
+/// What to write, and the status to end with.
+#[derive(Debug, Drop)]
+pub struct Answer {
+    pub status: Status,
+    pub bytes: List<u8>,
+}
+
+/// What came of the game's file.
+#[derive(Debug, Drop)]
+pub enum GameStep {
+    Accepted(SmallGame),
+    Refused(Answer),
+}
+
+/// An answer of one line.
+fn line(alloc: Global, status: Status, line: &[u8]) -> Result<Answer, AllocError>
+    ensures ends { IfOk result (λ a. a.status ≡ status) }
+    ensures writes { IfOk result (λ a. a.bytes ≡ line.now) }
+{
+    let mut bytes = List::new(alloc);
+    bytes.extend_from_slice(line)?;
+    Ok(Answer { status, bytes })
+}
+
+/// Reads the game's file, and its text.
+fn step_to_game<F: Files>(alloc: Global, file: &str, files: &mut F) -> Result<GameStep, AllocError>
+    ensures held { (name : List ℕ) → F.held files.new name ≡ F.held files.old name }
+    ensures moved { OnlyMoves file.now (F.faults files.old) (F.faults files.new) }
+    ensures steps { IfOk result (StepsToGame file.now (F.held files.old) (F.faults files.old) (F.faults files.new)) }
+{
+    let bad = b"refused game NotBuilt at 1:1\n".as_slice();
+    let missed = b"refused read game\n".as_slice();
+    match fetch(alloc, file, files)? {
+        Fetched::Text(text) => match game_of(alloc, text.as_slice())? {
+            Some(tree) => Ok(GameStep::Accepted(tree)),
+            None => Ok(GameStep::Refused(line(alloc, Status::GameText, bad)?)),
+        },
+        Fetched::TooLong => Ok(GameStep::Refused(line(alloc, Status::GameText, bad)?)),
+        Fetched::Failed => Ok(GameStep::Refused(line(alloc, Status::ReadFault, missed)?)),
+    }
+}
+
+/// The report on the game under the strategy's text, or its refusal.
+fn judge(alloc: Global, tree: &SmallGame, text: &[u8]) -> Result<Answer, AllocError>
+    ensures { IfOk result (λ a. BadStrategy tree.now text.now a.status a.bytes ⊎ Reports tree.now text.now a.status a.bytes) }
+{
+    match strategy_of(alloc, text)? {
+        Some(sections) if fits(tree, sections.as_slice()) => {
+            let report = report_on(alloc, tree, sections.as_slice())?;
+            let status = if report.is_equilibrium {
+                Status::Done
+            } else {
+                Status::Deviations
+            };
+            Ok(Answer {
+                status,
+                bytes: report.text,
+            })
+        }
+        _ => line(
+            alloc,
+            Status::StrategyText,
+            b"refused strategy NotBuilt at 1:1\n",
+        ),
+    }
+}
+
+/// Reads the strategy's file, and answers.
+fn step_to_strategy<F: Files>(
+    alloc: Global,
+    tree: &SmallGame,
+    file: &str,
+    files: &mut F,
+) -> Result<Answer, AllocError>
+    ensures held { (name : List ℕ) → F.held files.new name ≡ F.held files.old name }
+    ensures moved { OnlyMoves file.now (F.faults files.old) (F.faults files.new) }
+    ensures steps { IfOk result (StepsToStrategy file.now tree.now (F.held files.old) (F.faults files.old) (F.faults files.new)) }
+{
+    let bad = b"refused strategy NotBuilt at 1:1\n".as_slice();
+    let missed = b"refused read strategy\n".as_slice();
+    match fetch(alloc, file, files)? {
+        Fetched::Text(text) => Ok(judge(alloc, tree, text.as_slice())?),
+        Fetched::TooLong => Ok(line(alloc, Status::StrategyText, bad)?),
+        Fetched::Failed => Ok(line(alloc, Status::ReadFault, missed)?),
+    }
+}
+
+/// Reads both files in turn, and answers.
+fn check<F: Files>(
+    alloc: Global,
+    game: &str,
+    strategy: &str,
+    files: &mut F,
+) -> Result<Answer, AllocError>
+    ensures held { (name : List ℕ) → F.held files.new name ≡ F.held files.old name }
+    ensures moved { MovesNamed (Some (record { game = game.now; strategy = strategy.now })) (F.faults files.old) (F.faults files.new) }
+    ensures answer { IfOk result (λ a. Intends (Some (record { game = game.now; strategy = strategy.now }))
+        (F.held files.old) (F.faults files.old) (F.faults files.new) a.status a.bytes) }
+{
+    match step_to_game(alloc, game, files)? {
+        GameStep::Accepted(tree) => Ok(step_to_strategy(alloc, &tree, strategy, files)?),
+        GameStep::Refused(answer) => Ok(answer),
+    }
+}
+
+/// What to write for the words, and the status to end with.
+pub fn answer_words<F: Files>(
+    alloc: Global,
+    words: &[String],
+    files: &mut F,
+) -> Result<Answer, AllocError>
+    ensures held { (name : List ℕ) → F.held files.new name ≡ F.held files.old name }
+    ensures moved { MovesNamed (named (map string_bytes words.now)) (F.faults files.old) (F.faults files.new) }
+    ensures answer { IfOk result (λ a. Intends (named (map string_bytes words.now))
+        (F.held files.old) (F.faults files.old) (F.faults files.new) a.status a.bytes) }
+{
+    match crate::words::named(words) {
+        Some((game, strategy)) => check(alloc, game, strategy, files),
+        None => line(alloc, Status::Words, b"refused words\n"),
+    }
+}

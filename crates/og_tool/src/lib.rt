@@ -1,0 +1,15 @@
+//! The top call: the words and the files that they name, to the bytes written and the status.
+#![tactic(auto)]
+
+mod answer;
+mod fetch;
+mod read;
+mod status;
+mod top;
+mod words;
+
+pub use status::Status;
+pub use top::run;
+
+#[cfg(test)]
+mod tests;
