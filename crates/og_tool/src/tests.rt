@@ -9,7 +9,7 @@ use std::process::Abort;
 use std::sync::ledger::{Blank, Ledger};
 use std::test::Fail;
 
-/// The words, , the texts under those names, and what of them is to fail.
+/// The words, the texts under the names `g` and `s`, what of them is to fail, and what is wanted.
 #[derive(Drop)]
 struct Case<'a> {
     words: &'a str,
