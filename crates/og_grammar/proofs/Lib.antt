@@ -1,0 +1,6 @@
+pub mod Sets
+pub mod Starts
+pub mod Sound
+pub mod Complete
+pub mod Whole
+pub mod Many

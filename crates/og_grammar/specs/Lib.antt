@@ -1,0 +1,4 @@
+pub mod Rule
+pub mod Words
+pub mod Reading
+pub mod Laws
