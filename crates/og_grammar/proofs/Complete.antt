@@ -22,11 +22,11 @@ after_part b mores firsts ys rest e (inl (p, q)) stop = let s = rw q at stop in 
 after_part b mores firsts ys rest e (inr f) stop = sees_apart mores firsts (ys ++ rest) e (f rest)
 
 -- what can't be empty begins with a first kind
-begins : (b : Bool) (ks : List Kind) (xs rest : List Token) → b ≡ false → Starts b ks xs → sees_any ks (xs ++ rest) ≡ true
+pub begins : (b : Bool) (ks : List Kind) (xs rest : List Token) → b ≡ false → Starts b ks xs → sees_any ks (xs ++ rest) ≡ true
 begins b ks xs rest e (inl (p, q)) = cc
 begins b ks xs rest e (inr f) = f rest
 
-seen_length : (ks : List Kind) (ts : List Token) → sees_any ks ts ≡ true → 1 ≤ length ts
+pub seen_length : (ks : List Kind) (ts : List Token) → sees_any ks ts ≡ true → 1 ≤ length ts
 seen_length ks [] e = let none = sees_none ks in cc
 seen_length ks (t ∷ ts) e = omega arith
 
@@ -61,7 +61,7 @@ alt_fine : (a b c d : Bool) → (a && (b && (not c && d))) ≡ true → (a ≡ t
 alt_fine a b c d e =
     let p = seq_fine a b (not c && d) e in let q = and_parts (not c) d p.2 in (p.0, p.1, not-true c q.0, q.1)
 
-star_fine : (a b c : Bool) → (a && (not b && c)) ≡ true → (a ≡ true) × (b ≡ false) × (c ≡ true)
+pub star_fine : (a b c : Bool) → (a && (not b && c)) ≡ true → (a ≡ true) × (b ≡ false) × (c ≡ true)
 star_fine a b c e = let p = seq_fine a (not b) c e in (p.0, not-true b p.1, p.2)
 
 pub complete : {A : Type 0} (f : Rule A) → fine f ≡ true → (xs rest : List Token) (a : A) → spells f xs a → sees_any (more f) rest ≡ false → read f (xs ++ rest) ≡ Some (a, rest)

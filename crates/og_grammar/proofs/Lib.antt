@@ -4,3 +4,4 @@ pub mod Sound
 pub mod Complete
 pub mod Whole
 pub mod Many
+pub mod SameKinds

@@ -1,6 +1,8 @@
 -- What a reader of a rule promises, and the laws that any rule that is fine has.
 use Rattle.std.specs.Prelude.{◌≡◌, false, List, [], ◌++◌, Option, Some, None, MatchOption}
 use Rattle.og_lex.specs.declared.token.Token.{Token}
+use Rattle.og_lex.specs.declared.token.Kind.{Kind}
+use Rattle.og_lex.specs.declared.token.Kind.TheVariants.{Number}
 use Rattle.og_grammar.specs.Rule.{Rule, spells}
 use Rattle.og_grammar.specs.Reading.{more, read, read_whole, sees_any}
 
@@ -27,3 +29,8 @@ IsSingle {A} rule = (ts : List Token) (a b : A) → spells rule ts a → spells 
 -- reading a whole list gives a value exactly where one is spelled
 abbrev pub IsExact : {A : Type 0} → Rule A → Type 0
 IsExact rule = (ts : List Token) → IsSpelled rule ts (read_whole rule ts)
+
+-- equal, but for the value of a number
+abbrev pub IsSameKind : Kind → Kind → Type 0
+IsSameKind (Number _) (Number _) = Unit {0}
+IsSameKind k l = k ≡ l

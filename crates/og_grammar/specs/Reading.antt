@@ -80,6 +80,10 @@ abbrev pub with_value : {A B : Type 0} → (A → B) → Outcome A → Outcome B
 with_value h None = None
 with_value h (Some v) = Some (h v.0, v.1)
 
+-- the values that were found before, in front of those that the rest gives
+abbrev pub with_front : {A : Type 0} → List A → Outcome (List A) → Outcome (List A)
+with_front found = with_value (λ vs. found ++ vs)
+
 unfoldable pub read_token : Kind → (Token → Bool) → List Token → Outcome Token
 read_token k test [] = None
 read_token k test (t ∷ ts) = if same_kind t.kind k && test t then Some (t, ts) else None

@@ -1,0 +1,44 @@
+//! What holds of each rule, proved once.
+
+ghost use Rattle.std.specs.Prelude.{◌≡◌, ◌↔◌, true, IsTrue, List, ℕ};
+ghost use Rattle.og_lex.specs.declared.token.Kind.{Kind};
+ghost use Rattle.og_grammar.specs.Rule.{Rule, same_kind};
+ghost use Rattle.og_grammar.specs.Reading.{fine};
+ghost use Rattle.og_grammar.specs.Laws.{IsSound, IsComplete, IsSingle, IsExact, IsSameKind};
+
+/// Two kinds are one to a grammar exactly where they are equal, but for the value of a number.
+pub fn same_kinds()
+    ensures { (k l : Kind) → IsTrue (same_kind k l) ↔ IsSameKind k l }
+{
+}
+
+/// A grammar of values of the type, over a text that its tokens point into.
+pub trait Spelled {
+    ghost rule: { List ℕ → Rule Self };
+
+    ghost is_fine: { (text : List ℕ) → fine (rule text) ≡ true };
+}
+
+/// What is read is spelled.
+pub fn sound_reading<A: Spelled>()
+    ensures { (text : List ℕ) → IsSound (A.rule text) }
+{
+}
+
+/// What is spelled is read, whatever follows that the rule wouldn't go on with.
+pub fn whole_reading<A: Spelled>()
+    ensures { (text : List ℕ) → IsComplete (A.rule text) }
+{
+}
+
+/// A list of tokens spells at most one value.
+pub fn single_value<A: Spelled>()
+    ensures { (text : List ℕ) → IsSingle (A.rule text) }
+{
+}
+
+/// Reading a whole list gives a value exactly where one is spelled.
+pub fn exact_reading<A: Spelled>()
+    ensures { (text : List ℕ) → IsExact (A.rule text) }
+{
+}
