@@ -5,3 +5,4 @@ pub mod Complete
 pub mod Whole
 pub mod Many
 pub mod SameKinds
+pub mod Loops

@@ -1,5 +1,5 @@
 -- Sets of kinds, and whether the next token is of one of them.
-use Rattle.std.proofs.Common.{◌≡◌, true, false, not, List, [], ◌∷◌, ◌++◌, inl, inr, refl, arith}
+use Rattle.std.proofs.Common.{◌≡◌, Bool, true, false, not, List, [], ◌∷◌, ◌++◌, inl, inr, refl, arith}
 use Rattle.std.proofs.lemmas.Bool.{and_parts, not-true, or_cases, or_left, or_right, or_from, cases_Bool}
 use Rattle.std.proofs.lemmas.Bool.Decides.{nat_tests}
 use Rattle.og_lex.specs.declared.token.Token.{Token}
@@ -56,3 +56,7 @@ stops_left ks ls ts e =
 pub stops_right : (ks ls : List Kind) (ts : List Token) → sees_any (ks ++ ls) ts ≡ false → sees_any ls ts ≡ false
 stops_right ks ls ts e =
     elim (cases_Bool (sees_any ls ts)) [ inl f ↦ let h = sees_right ks ls ts f in cc | inr f ↦ f ]
+
+pub sees_one : (k : Kind) (ts : List Token) (b : Bool) → sees k ts ≡ b → sees_any (k ∷ []) ts ≡ b
+sees_one k ts true e = or_left (sees k ts) false e
+sees_one k ts false e = or_from (sees k ts) false e refl
