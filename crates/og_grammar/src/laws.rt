@@ -12,33 +12,35 @@ pub fn same_kinds()
 {
 }
 
-/// A grammar of values of the type, over a text that its tokens point into.
-pub trait Spelled {
-    ghost rule: { List ℕ → Rule Self };
+/// A language: a grammar of values over a text that its tokens point into.
+pub trait Language {
+    type Value;
+
+    ghost rule: { List ℕ → Rule Self.Value };
 
     ghost is_fine: { (text : List ℕ) → fine (rule text) ≡ true };
 }
 
 /// What is read is spelled.
-pub fn sound_reading<A: Spelled>()
-    ensures { (text : List ℕ) → IsSound (A.rule text) }
+pub fn sound_reading<L: Language>()
+    ensures { (text : List ℕ) → IsSound (L.rule text) }
 {
 }
 
 /// What is spelled is read, whatever follows that the rule wouldn't go on with.
-pub fn whole_reading<A: Spelled>()
-    ensures { (text : List ℕ) → IsComplete (A.rule text) }
+pub fn whole_reading<L: Language>()
+    ensures { (text : List ℕ) → IsComplete (L.rule text) }
 {
 }
 
 /// A list of tokens spells at most one value.
-pub fn single_value<A: Spelled>()
-    ensures { (text : List ℕ) → IsSingle (A.rule text) }
+pub fn single_value<L: Language>()
+    ensures { (text : List ℕ) → IsSingle (L.rule text) }
 {
 }
 
 /// Reading a whole list gives a value exactly where one is spelled.
-pub fn exact_reading<A: Spelled>()
-    ensures { (text : List ℕ) → IsExact (A.rule text) }
+pub fn exact_reading<L: Language>()
+    ensures { (text : List ℕ) → IsExact (L.rule text) }
 {
 }

@@ -1,5 +1,7 @@
+ghost use Rattle.std.specs.Prelude.{IfOk};
 ghost use Rattle.og_grammar.specs.Reads.{Reads};
 ghost use Rattle.og_read.specs.Grammar as spec;
+ghost use Rattle.og_read.specs.Spelled.{FindsGame};
 
 use crate::lines::{empty_field, lines};
 use crate::words::{main_name, name, names};
@@ -7,7 +9,7 @@ use og_grammar::{Fault, Tokens};
 use og_lex::{Kind, Mark, Token, Word};
 use og_list::List;
 use og_small::{Line, SmallGame, TypeDecl};
-use std::alloc::Global;
+use std::alloc::{AllocError, Global};
 
 #[tactic(auto, unfolding(crate::specs::Grammar::cases))]
 fn cases(alloc: Global, text: &[u8], tokens: &mut Tokens<'_>) -> Result<List<List<u8>>, Fault>
@@ -101,4 +103,27 @@ fn game(alloc: Global, text: &[u8], tokens: &mut Tokens<'_>) -> Result<SmallGame
     let lines = block(alloc, text, tokens)?;
     tokens.take(Kind::Mark(Mark::Semicolon))?;
     Ok(SmallGame { types, lines })
+}
+
+/// Reads the tokens, which point into `text`, as one small game. The answer is `None` exactly where
+/// they are none.
+pub fn read_game(
+    alloc: Global,
+    text: &[u8],
+    tokens: &[Token],
+) -> Result<Option<SmallGame>, AllocError>
+    ensures { IfOk result (FindsGame text.now tokens.now) }
+{
+    let mut rest = Tokens::new(tokens);
+    match game(alloc, text, &mut rest) {
+        Ok(game) => {
+            if rest.is_done() {
+                Ok(Some(game))
+            } else {
+                Ok(None)
+            }
+        }
+        Err(Fault::Syntax) => Ok(None),
+        Err(Fault::Memory) => Err(AllocError),
+    }
 }

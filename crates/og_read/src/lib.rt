@@ -2,7 +2,12 @@
 #![tactic(auto)]
 
 mod games;
+mod laws;
 mod lines;
 mod strategies;
 mod tables;
 mod words;
+
+pub use games::read_game;
+pub use laws::{SmallGames, Strategies, one_game, one_strategy};
+pub use strategies::read_strategy;

@@ -1,12 +1,14 @@
+ghost use Rattle.std.specs.Prelude.{IfOk};
 ghost use Rattle.og_grammar.specs.Reads.{Reads};
 ghost use Rattle.og_read.specs.Grammar as spec;
+ghost use Rattle.og_read.specs.Spelled.{FindsStrategy};
 
 use crate::words::{name, quoted};
 use og_grammar::{Fault, Tokens};
-use og_lex::{Kind, Mark, Word};
+use og_lex::{Kind, Mark, Token, Word};
 use og_list::List;
 use og_small::Section;
-use std::alloc::Global;
+use std::alloc::{AllocError, Global};
 
 #[tactic(auto, unfolding(crate::specs::Grammar::choice))]
 fn choice(alloc: Global, text: &[u8], tokens: &mut Tokens<'_>) -> Result<List<u8>, Fault>
@@ -41,4 +43,27 @@ fn strategy(alloc: Global, text: &[u8], tokens: &mut Tokens<'_>) -> Result<List<
         sections.add(section(alloc, text, tokens)?)?;
     }
     Ok(sections)
+}
+
+/// Reads the tokens, which point into `text`, as the sections of a strategy. The answer is `None`
+/// exactly where they are none.
+pub fn read_strategy(
+    alloc: Global,
+    text: &[u8],
+    tokens: &[Token],
+) -> Result<Option<List<Section>>, AllocError>
+    ensures { IfOk result (FindsStrategy text.now tokens.now) }
+{
+    let mut rest = Tokens::new(tokens);
+    match strategy(alloc, text, &mut rest) {
+        Ok(sections) => {
+            if rest.is_done() {
+                Ok(Some(sections))
+            } else {
+                Ok(None)
+            }
+        }
+        Err(Fault::Syntax) => Ok(None),
+        Err(Fault::Memory) => Err(AllocError),
+    }
 }

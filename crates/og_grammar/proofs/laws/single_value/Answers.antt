@@ -2,4 +2,4 @@ use Rattle.og_grammar.proofs.Whole.{IsSingle-rule}
 use Rattle.og_grammar.proofs.laws.single_value.Goals as goal
 
 pub returns : goal.returns
-returns g c text = IsSingle-rule (g.A.Spelled.rule text) (g.A.Spelled.is_fine text)
+returns g c text = IsSingle-rule (g.L.Language.rule text) (g.L.Language.is_fine text)
