@@ -1,9 +1,9 @@
 -- What is spelled is read, whatever follows that the rule wouldn't go on with.
-use Rattle.std.proofs.Common.{◌≡◌, ℕ, zero, suc, ◌≤◌, Bool, true, false, not, ◌&&◌, List, [], ◌∷◌, ◌++◌, length, Option, Some, None, ◌⊎◌, inl, inr, refl, sym, ◌∙◌, ap, arith, append_assoc, length-append}
-use Rattle.std.proofs.lemmas.Bool.{and_parts, and_from, not-true}
+use Rattle.std.proofs.Common.{◌≡◌, ℕ, zero, suc, ◌≤◌, Bool, true, false, not, ◌&&◌, List, [], ◌∷◌, ◌++◌, length, Some, inl, inr, refl, ap, arith, append_assoc, length-append}
+use Rattle.std.proofs.lemmas.Bool.{and_parts, not-true}
 use Rattle.og_lex.specs.declared.token.Token.{Token}
 use Rattle.og_lex.specs.declared.token.Kind.{Kind}
-use Rattle.og_grammar.specs.Rule.{Rule, one, give, seq, alt, star, map, same_kind, spells, IsToken, EachInTurn}
+use Rattle.og_grammar.specs.Rule.{Rule, one, give, seq, alt, star, map, spells, IsToken, EachInTurn}
 use Rattle.og_grammar.specs.Reading.{apart, kinds_if, sees_any, nullable, first, more, fine, Outcome, and_then, with_value, read_token, read_each, read_all, read}
 use Rattle.og_grammar.proofs.Sets.{sees_none, sees_apart, stops_left, stops_right}
 use Rattle.og_grammar.proofs.Starts.{Starts, starts, starts_each}
@@ -88,5 +88,5 @@ complete (alt f g) e xs rest a (inr p) s =
 complete (star f) e xs rest a p s =
     let fines = star_fine (fine f) (nullable f) (apart (more f) (first f)) e in
     each_again (spells f) (read f) (nullable f) (first f) (more f) fines.1 fines.2 (λ ys b q. starts f ys b q) (λ ys after b q stop. complete f fines.0 ys after b q stop)
-        a xs rest (length (xs ++ rest)) p (stops_left (more f) (first f) rest s) (stops_right (more f) (first f) rest s) (omega arith)
+    a xs rest (length (xs ++ rest)) p (stops_left (more f) (first f) rest s) (stops_right (more f) (first f) rest s) (omega arith)
 complete (map h f) e xs rest a (b, p, value) s = rw (complete f e xs rest b p s, value) refl

@@ -1,6 +1,6 @@
 -- The goals of a loop that reads items while the next token begins one. It keeps that the tokens of the
 -- call are read as what was found, in front of what the rest is read as.
-use Rattle.std.proofs.Common.{◌≡◌, ℕ, ◌<◌, true, false, List, [], ◌∷◌, ◌++◌, length, Some, None, Result, Ok, Err, refl}
+use Rattle.std.proofs.Common.{◌≡◌, ◌<◌, true, false, List, [], ◌∷◌, ◌++◌, length, Some, Result, Ok, Err}
 use Rattle.og_lex.specs.declared.token.Token.{Token}
 use Rattle.og_grammar.specs.declared.fault.Fault.{Fault}
 use Rattle.og_grammar.specs.declared.fault.Fault.TheVariants.{Memory, Syntax}

@@ -1,5 +1,5 @@
 -- A loop that reads items in turn: what it found, before what the rest is read as, is what all is read as.
-use Rattle.std.proofs.Common.{◌≡◌, ℕ, zero, suc, ◌<◌, ◌≤◌, true, false, List, [], ◌∷◌, ◌++◌, length, Option, Some, None, inl, inr, refl, sym, ◌∙◌, ap, arith, append_assoc, length-append}
+use Rattle.std.proofs.Common.{◌≡◌, ℕ, zero, suc, ◌<◌, ◌≤◌, true, false, List, [], ◌∷◌, ◌++◌, length, Some, None, inl, inr, refl, sym, ◌∙◌, ap, arith, append_assoc, length-append}
 use Rattle.std.proofs.lemmas.Bool.{cases_Bool, false≢true}
 use Rattle.std.proofs.lemmas.List.{append-nil}
 use Rattle.og_lex.specs.declared.token.Token.{Token}
@@ -35,7 +35,7 @@ enough ks item shrink (suc n) zero [] p q = rw (sees_none ks) refl
 enough ks item shrink (suc n) zero (t ∷ ts) p q = absurd (omega arith)
 enough ks item shrink (suc n) (suc m) ts p q =
     let same = and_then_same (item ts) (λ v rest. with_value (λ vs. v ∷ vs) (read_each ks item n rest)) (λ v rest. with_value (λ vs. v ∷ vs) (read_each ks item m rest))
-        (λ a rest is. let less = shrink ts rest a is in ap (with_value (λ vs. a ∷ vs)) (enough ks item shrink n m rest (omega arith) (omega arith))) in
+    (λ a rest is. let less = shrink ts rest a is in ap (with_value (λ vs. a ∷ vs)) (enough ks item shrink n m rest (omega arith) (omega arith))) in
     elim (cases_Bool (sees_any ks ts)) [ inl s ↦ rw s same | inr s ↦ rw s refl ]
 
 one_more : {A : Type 0} (ks : List Kind) (item : List Token → Outcome A) → Shrinks item → (ts rest : List Token) (a : A) → sees_any ks ts ≡ true → item ts ≡ Some (a, rest)

@@ -1,8 +1,7 @@
 -- Which kinds are one to a grammar.
-use Rattle.std.proofs.Common.{◌≡◌, true, refl, sym, ap, arith}
+use Rattle.std.proofs.Common.{◌≡◌, true, refl, ap, arith}
 use Rattle.std.proofs.lemmas.Bool.{eqb-true, eq-eqb}
 use denote.Enum.Bare.{tag_one}
-use denote.Enum.Declared.{tag_of}
 use Rattle.og_lex.specs.declared.token.Kind.{Kind}
 use Rattle.og_lex.specs.declared.token.Kind.TheVariants.{Name, Under, Number, Text, Word, Mark, Separator}
 use Rattle.og_lex.specs.contracts.token.Word as words

@@ -16,9 +16,10 @@ pub has_seen : (ls : List Kind) (k : Kind) (t : Token) (ts : List Token) → see
 unfolding sees
 has_seen [] k t ts e f = cc
 has_seen (l ∷ ls) k t ts e f =
-    elim (or_cases (sees l (t ∷ ts)) (sees_any ls (t ∷ ts)) f)
-    [ inl g ↦ or_left (same_kind k l) (has ls k) (same_kinds t.kind k l e g)
-    | inr g ↦ or_right (same_kind k l) (has ls k) (has_seen ls k t ts e g) ]
+    elim (or_cases (sees l (t ∷ ts)) (sees_any ls (t ∷ ts)) f) [
+      | inl g ↦ or_left (same_kind k l) (has ls k) (same_kinds t.kind k l e g)
+      | inr g ↦ or_right (same_kind k l) (has ls k) (has_seen ls k t ts e g)
+    ]
 
 pub sees_none : (ks : List Kind) → sees_any ks [] ≡ false
 unfolding sees
@@ -41,9 +42,10 @@ sees_apart (k ∷ ks) ls (t ∷ ts) e f =
 pub sees_left : (ks ls : List Kind) (ts : List Token) → sees_any ks ts ≡ true → sees_any (ks ++ ls) ts ≡ true
 sees_left [] ls ts e = cc
 sees_left (k ∷ ks) ls ts e =
-    elim (or_cases (sees k ts) (sees_any ks ts) e)
-    [ inl f ↦ or_left (sees k ts) (sees_any (ks ++ ls) ts) f
-    | inr f ↦ or_right (sees k ts) (sees_any (ks ++ ls) ts) (sees_left ks ls ts f) ]
+    elim (or_cases (sees k ts) (sees_any ks ts) e) [
+      | inl f ↦ or_left (sees k ts) (sees_any (ks ++ ls) ts) f
+      | inr f ↦ or_right (sees k ts) (sees_any (ks ++ ls) ts) (sees_left ks ls ts f)
+    ]
 
 pub sees_right : (ks ls : List Kind) (ts : List Token) → sees_any ls ts ≡ true → sees_any (ks ++ ls) ts ≡ true
 sees_right [] ls ts e = e

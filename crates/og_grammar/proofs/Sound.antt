@@ -1,5 +1,5 @@
 -- What is read is spelled.
-use Rattle.std.proofs.Common.{◌≡◌, ℕ, zero, suc, Bool, true, false, ◌&&◌, List, [], ◌∷◌, ◌++◌, length, Option, Some, None, ◌⊎◌, inl, inr, refl, sym, ◌∙◌, ap, append_assoc, cond}
+use Rattle.std.proofs.Common.{◌≡◌, ℕ, zero, suc, Bool, ◌&&◌, List, [], ◌∷◌, ◌++◌, length, Some, None, inl, inr, refl, sym, ◌∙◌, ap, append_assoc}
 use Rattle.std.proofs.lemmas.Bool.{cases_Bool, and_parts}
 use Rattle.std.proofs.lemmas.Option.{some_pair_parts, none-some}
 use Rattle.og_lex.specs.declared.token.Token.{Token}
@@ -29,12 +29,13 @@ token_read : (k : Kind) (test : Token → Bool) (ts : List Token) (t : Token) (r
 unfolding read_token
 token_read k test [] t rest e = cc
 token_read k test (u ∷ us) t rest e =
-    elim (cases_Bool (same_kind u.kind k && test u))
-    [ inl p ↦
-        let parts = some_pair_parts u t us rest (rw p at e) in
-        let both = and_parts (same_kind u.kind k) (test u) p in
-        record { front = u ∷ []; cut = ap (λ more. u ∷ more) parts.1; spelled = rw (← parts.0) (refl, both.0, both.1) }
-    | inr p ↦ absurd (none-some (t, rest) (rw p at e)) ]
+    elim (cases_Bool (same_kind u.kind k && test u)) [
+      | inl p ↦
+          let parts = some_pair_parts u t us rest (rw p at e) in
+          let both = and_parts (same_kind u.kind k) (test u) p in
+          record { front = u ∷ []; cut = ap (λ more. u ∷ more) parts.1; spelled = rw (← parts.0) (refl, both.0, both.1) }
+      | inr p ↦ absurd (none-some (t, rest) (rw p at e))
+    ]
 
 seq_read : {A B : Type 0} (f : List Token → A → Type 0) (g : List Token → B → Type 0) (ts mid rest : List Token) (a : A) (b : B) (v : A × B) → v ≡ (a, b)
     → Reads f ts a mid → Reads g mid b rest → Reads (InTurn f g) ts v rest
@@ -59,17 +60,18 @@ unfolding read_each
 each_read f ks item told zero ts vs rest e =
     let parts = some_pair_parts [] vs ts rest e in record { front = []; cut = parts.1; spelled = rw (← parts.0) refl }
 each_read f ks item told (suc n) ts vs rest e =
-    elim (cases_Bool (sees_any ks ts))
-    [ inl p ↦
-        let q = rw p at e in
-        let (a, mid, one_is, others_are) = and_then_some (item ts) _ (vs, rest) q in
-        let (others, read_is, value_is) = with_value_some (λ more. a ∷ more) (read_each ks item n mid) vs rest others_are in
-        let head = told ts a mid one_is in
-        let tail = each_read f ks item told n mid others rest read_is in
-        each_more f ts mid rest a others vs value_is head tail
-    | inr p ↦
-        let parts = some_pair_parts [] vs ts rest (rw p at e) in
-        record { front = []; cut = parts.1; spelled = rw (← parts.0) refl } ]
+    elim (cases_Bool (sees_any ks ts)) [
+      | inl p ↦
+          let q = rw p at e in
+          let (a, mid, one_is, others_are) = and_then_some (item ts) _ (vs, rest) q in
+          let (others, read_is, value_is) = with_value_some (λ more. a ∷ more) (read_each ks item n mid) vs rest others_are in
+          let head = told ts a mid one_is in
+          let tail = each_read f ks item told n mid others rest read_is in
+          each_more f ts mid rest a others vs value_is head tail
+      | inr p ↦
+          let parts = some_pair_parts [] vs ts rest (rw p at e) in
+          record { front = []; cut = parts.1; spelled = rw (← parts.0) refl }
+    ]
 
 pub sound : {A : Type 0} (f : Rule A) (ts : List Token) (a : A) (rest : List Token) → read f ts ≡ Some (a, rest) → Reads (spells f) ts a rest
 unfolding read_all
@@ -81,9 +83,10 @@ sound (seq f g) ts v rest e =
     let (b, read_is, value_is) = with_value_some (λ b. (a, b)) (read g mid) v rest g_is in
     seq_read (spells f) (spells g) ts mid rest a b v value_is (sound f ts a mid f_is) (sound g mid b rest read_is)
 sound (alt f g) ts a rest e =
-    elim (cases_Bool (sees_any (first f) ts))
-    [ inl p ↦ let r = sound f ts a rest (rw p at e) in record { front = r.front; cut = r.cut; spelled = inl r.spelled }
-    | inr p ↦ let r = sound g ts a rest (rw p at e) in record { front = r.front; cut = r.cut; spelled = inr r.spelled } ]
+    elim (cases_Bool (sees_any (first f) ts)) [
+      | inl p ↦ let r = sound f ts a rest (rw p at e) in record { front = r.front; cut = r.cut; spelled = inl r.spelled }
+      | inr p ↦ let r = sound g ts a rest (rw p at e) in record { front = r.front; cut = r.cut; spelled = inr r.spelled }
+    ]
 sound (star f) ts a rest e = each_read (spells f) (first f) (read f) (λ us b after h. sound f us b after h) (length ts) ts a rest e
 sound (map h f) ts b rest e =
     let (a, read_is, value_is) = with_value_some h (read f ts) b rest e in

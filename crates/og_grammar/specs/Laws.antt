@@ -1,5 +1,5 @@
 -- What a reader of a rule promises, and the laws that any rule that is fine has.
-use Rattle.std.specs.Prelude.{◌≡◌, false, List, [], ◌++◌, Option, Some, None, MatchOption}
+use Rattle.std.specs.Prelude.{◌≡◌, false, List, ◌++◌, Option, Some, MatchOption}
 use Rattle.og_lex.specs.declared.token.Token.{Token}
 use Rattle.og_lex.specs.declared.token.Kind.{Kind}
 use Rattle.og_lex.specs.declared.token.Kind.TheVariants.{Number}

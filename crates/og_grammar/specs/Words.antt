@@ -1,5 +1,5 @@
 -- Shorthands for rules.
-use Rattle.std.specs.Prelude.{Bool, true, false, Option, Some, None, List, []}
+use Rattle.std.specs.Prelude.{Bool, true, Option, Some, None}
 use Rattle.og_lex.specs.declared.token.Token.{Token}
 use Rattle.og_lex.specs.declared.token.Kind.{Kind}
 use Rattle.og_lex.specs.declared.token.Kind.TheVariants as k

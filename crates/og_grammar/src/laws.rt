@@ -9,8 +9,7 @@ ghost use Rattle.og_grammar.specs.Laws.{IsSound, IsComplete, IsSingle, IsExact, 
 /// Two kinds are one to a grammar exactly where they are equal, but for the value of a number.
 pub fn same_kinds()
     ensures { (k l : Kind) → IsTrue (same_kind k l) ↔ IsSameKind k l }
-{
-}
+{}
 
 /// A language: a grammar of values over a text that its tokens point into.
 pub trait Language {
@@ -24,23 +23,19 @@ pub trait Language {
 /// What is read is spelled.
 pub fn sound_reading<L: Language>()
     ensures { (text : List ℕ) → IsSound (L.rule text) }
-{
-}
+{}
 
 /// What is spelled is read, whatever follows that the rule wouldn't go on with.
 pub fn whole_reading<L: Language>()
     ensures { (text : List ℕ) → IsComplete (L.rule text) }
-{
-}
+{}
 
 /// A list of tokens spells at most one value.
 pub fn single_value<L: Language>()
     ensures { (text : List ℕ) → IsSingle (L.rule text) }
-{
-}
+{}
 
 /// Reading a whole list gives a value exactly where one is spelled.
 pub fn exact_reading<L: Language>()
     ensures { (text : List ℕ) → IsExact (L.rule text) }
-{
-}
+{}

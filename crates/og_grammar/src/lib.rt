@@ -7,5 +7,5 @@ mod laws;
 mod tokens;
 
 pub use fault::Fault;
-pub use laws::{exact_reading, same_kinds, single_value, sound_reading, whole_reading, Language};
+pub use laws::{Language, exact_reading, same_kinds, single_value, sound_reading, whole_reading};
 pub use tokens::Tokens;

@@ -42,12 +42,10 @@ impl Language for Strategies {
 pub fn one_game()
     ensures { (text : List ℕ) (tokens : List Token) (one other : SmallGame)
         → SpellsGame text tokens one → SpellsGame text tokens other → one ≡ other }
-{
-}
+{}
 
 /// Tokens spell at most one list of sections.
 pub fn one_strategy()
     ensures { (text : List ℕ) (tokens : List Token) (one other : List Section)
         → SpellsStrategy text tokens one → SpellsStrategy text tokens other → one ≡ other }
-{
-}
+{}

@@ -11,7 +11,11 @@ use std::alloc::{AllocError, Global};
 fn part(text: &[u8], start: usize, end: usize) -> &[u8]
     ensures { result.now ≡ spec.part text.now start end }
 {
-    let rest = if start < text.len() { &text[start..] } else { &[] };
+    let rest = if start < text.len() {
+        &text[start..]
+    } else {
+        &[]
+    };
     let len = end.saturating_sub(start);
     if len < rest.len() { &rest[..len] } else { rest }
 }

@@ -1,5 +1,3 @@
-use Rattle.std.proofs.Common.{true}
-use Rattle.std.proofs.lemmas.Bool.{true≢false}
 use Rattle.og_grammar.proofs.Whole.{spelled_to_end, unspelled_none, unspelled_rest}
 use Rattle.og_read.specs.Grammar.{game}
 use Rattle.og_read.specs.Fine.{game_fine}
@@ -13,7 +11,7 @@ returns-then-is_done c =
 pub returns-else-is_done : goal.returns-else-is_done
 returns-else-is_done c =
     unspelled_rest (game c.args.text.now) (game_fine c.args.text.now) c.args.tokens.now c.game.new.tokens c.in-Ok.game (rw c.new-rest.ensures at c.in-Ok.ensures)
-        (λ none. let done = c.is_done.ensures.1 none in let left = c.if-is_done.false in cc)
+    (λ none. let done = c.is_done.ensures.1 none in let left = c.if-is_done.false in cc)
 
 pub returns-in-Err-Syntax : goal.returns-in-Err-Syntax
 returns-in-Err-Syntax c =

@@ -15,7 +15,7 @@ unfolding type_decl
 returns-in_err-type_decl c =
     let p = err_from_is_err_and c.from_residual.result c.from_residual.ensures.1 in
     each_fails (types c.args.text.now) (type_decl c.args.text.now) _ c.types.tokens _ _ c.types.types _ _ _ c.types.invariant
-        (sees_one _ c.types.tokens true (cc)) c.in_err-type_decl.ensures p.1 p.2
+    (sees_one _ c.types.tokens true (cc)) c.in_err-type_decl.ensures p.1 p.2
 
 pub types-smaller : goal.types-smaller
 unfolding type_decl
@@ -25,10 +25,10 @@ pub types-preserved : goal.types-preserved
 unfolding type_decl
 types-preserved c =
     each_goes_on (types c.args.text.now) (type_decl c.args.text.now) refl _ c.types.tokens _ c.types.types _ _ c.types.invariant
-        (sees_one _ c.types.tokens true (cc)) c.in_ok-type_decl.ensures c.in_ok-add.ensures.ok
+    (sees_one _ c.types.tokens true (cc)) c.in_ok-type_decl.ensures c.in_ok-add.ensures.ok
 
 pub returns : goal.returns
 unfolding type_decl
 returns c =
     each_ends (types c.args.text.now) (type_decl c.args.text.now) _ c.types.tokens c.types.types c.types.invariant
-        (sees_one _ c.types.tokens false (cc))
+    (sees_one _ c.types.tokens false (cc))

@@ -15,7 +15,7 @@ unfolding section
 returns-in_err-section c =
     let p = err_from_is_err_and c.from_residual.result c.from_residual.ensures.1 in
     each_fails (strategy c.args.text.now) (section c.args.text.now) _ c.sections.tokens _ _ c.sections.sections _ _ _ c.sections.invariant
-        (sees_one _ c.sections.tokens true (cc)) c.in_err-section.ensures p.1 p.2
+    (sees_one _ c.sections.tokens true (cc)) c.in_err-section.ensures p.1 p.2
 
 pub sections-smaller : goal.sections-smaller
 unfolding section
@@ -25,10 +25,10 @@ pub sections-preserved : goal.sections-preserved
 unfolding section
 sections-preserved c =
     each_goes_on (strategy c.args.text.now) (section c.args.text.now) refl _ c.sections.tokens _ c.sections.sections _ _ c.sections.invariant
-        (sees_one _ c.sections.tokens true (cc)) c.in_ok-section.ensures c.in_ok-add.ensures.ok
+    (sees_one _ c.sections.tokens true (cc)) c.in_ok-section.ensures c.in_ok-add.ensures.ok
 
 pub returns : goal.returns
 unfolding section
 returns c =
     each_ends (strategy c.args.text.now) (section c.args.text.now) _ c.sections.tokens c.sections.sections c.sections.invariant
-        (sees_one _ c.sections.tokens false (cc))
+    (sees_one _ c.sections.tokens false (cc))

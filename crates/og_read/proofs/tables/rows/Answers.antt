@@ -15,7 +15,7 @@ unfolding row outcome
 returns-in_err-row c =
     let p = err_from_is_err_and c.from_residual.result c.from_residual.ensures.1 in
     each_fails (rows c.args.text.now) (row c.args.text.now) _ c.rows.tokens _ _ c.rows.rows _ _ _ c.rows.invariant
-        (sees_one _ c.rows.tokens true (cc)) c.in_err-row.ensures p.1 p.2
+    (sees_one _ c.rows.tokens true (cc)) c.in_err-row.ensures p.1 p.2
 
 pub rows-smaller : goal.rows-smaller
 unfolding row outcome
@@ -25,10 +25,10 @@ pub rows-preserved : goal.rows-preserved
 unfolding row outcome
 rows-preserved c =
     each_goes_on (rows c.args.text.now) (row c.args.text.now) refl _ c.rows.tokens _ c.rows.rows _ _ c.rows.invariant
-        (sees_one _ c.rows.tokens true (cc)) c.in_ok-row.ensures c.in_ok-add.ensures.ok
+    (sees_one _ c.rows.tokens true (cc)) c.in_ok-row.ensures c.in_ok-add.ensures.ok
 
 pub returns : goal.returns
 unfolding row outcome
 returns c =
     each_ends (rows c.args.text.now) (row c.args.text.now) _ c.rows.tokens c.rows.rows c.rows.invariant
-        (sees_one _ c.rows.tokens false (cc))
+    (sees_one _ c.rows.tokens false (cc))
