@@ -7,14 +7,17 @@ use Rattle.og_grammar.specs.Rule.{Rule, one, give, seq, alt, star, map, same_kin
 
 -- ---- sets of kinds
 
+-- a set is a list, whose order says nothing
 abbrev pub has : List Kind → Kind → Bool
 has [] k = false
 has (l ∷ ls) k = same_kind k l || has ls k
 
+-- no kind is in both
 abbrev pub apart : List Kind → List Kind → Bool
 apart [] ls = true
 apart (k ∷ ks) ls = not (has ls k) && apart ks ls
 
+-- the set, where the flag is true, and else the empty one
 abbrev pub kinds_if : Bool → List Kind → List Kind
 kinds_if b ks = if b then ks else []
 
@@ -72,10 +75,12 @@ fine (map h f) = fine f
 abbrev pub Outcome : Type 0 → Type 0
 Outcome A = Option (A × List Token)
 
+-- goes on with the value and the tokens after it
 abbrev pub and_then : {A B : Type 0} → Outcome A → (A → List Token → Outcome B) → Outcome B
 and_then None f = None
 and_then (Some v) f = f v.0 v.1
 
+-- the same tokens after another value
 abbrev pub with_value : {A B : Type 0} → (A → B) → Outcome A → Outcome B
 with_value h None = None
 with_value h (Some v) = Some (h v.0, v.1)
@@ -84,6 +89,7 @@ with_value h (Some v) = Some (h v.0, v.1)
 abbrev pub with_front : {A : Type 0} → List A → Outcome (List A) → Outcome (List A)
 with_front found = with_value (λ vs. found ++ vs)
 
+-- the next token, where it is of the kind and passes the test
 unfoldable pub read_token : Kind → (Token → Bool) → List Token → Outcome Token
 read_token k test [] = None
 read_token k test (t ∷ ts) = if same_kind t.kind k && test t then Some (t, ts) else None
@@ -98,6 +104,8 @@ read_each ks item (suc n) ts =
 unfoldable pub read_all : {A : Type 0} → List Kind → (List Token → Outcome A) → List Token → Outcome (List A)
 read_all ks item ts = read_each ks item (length ts) ts
 
+-- The value that the rule spells at the front of the tokens, by the next token alone. It is defined for
+-- any rule, and right for a fine one.
 abbrev pub read : {A : Type 0} → Rule A → List Token → Outcome A
 read (one k test) = read_token k test
 read (give a) = λ ts. Some (a, ts)
@@ -107,6 +115,7 @@ read (star f) = read_all (first f) (read f)
 read (map h f) = λ ts. with_value h (read f ts)
 
 -- the value that the whole list is read as
+-- the value, where no token is left
 abbrev pub ended : {A : Type 0} → Outcome A → Option A
 ended None = None
 ended (Some v) = elim (v.1) [ [] ↦ Some v.0 | t ∷ ts ↦ None ]

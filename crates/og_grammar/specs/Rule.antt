@@ -7,8 +7,8 @@ use Rattle.og_lex.specs.declared.token.Kind.TheVariants.{Name, Under, Number, Te
 use Rattle.og_lex.specs.contracts.token.Word as words
 use Rattle.og_lex.specs.contracts.token.Mark as marks
 
--- A rule for values of a type. Two tokens are of one kind whatever their values, so a rule for a number
--- names some number.
+-- A rule for values of a type. Two numbers are of one kind whatever their values, so a rule for a
+-- number names any.
 pub data Rule : Type 0 → Type 1 where
   -- a token of the kind that passes the test
   one : Kind → (Token → Bool) → Rule Token
@@ -33,6 +33,7 @@ kind_number Separator = 4
 kind_number (Word w) = 5 + 2 * tag_of words.the_type w
 kind_number (Mark m) = 6 + 2 * tag_of marks.the_type m
 
+-- equal, but for the value of a number
 unfoldable pub same_kind : Kind → Kind → Bool
 same_kind k l = kind_number k == kind_number l
 

@@ -11,10 +11,12 @@ pub fn same_kinds()
     ensures { (k l : Kind) → IsTrue (same_kind k l) ↔ IsSameKind k l }
 {}
 
-/// A language: a grammar of values over a text that its tokens point into.
+/// A language: the grammar of its values, over a text that the tokens point into. A type that has
+/// no value serves to name one.
 pub trait Language {
     type Value;
 
+    // The grammar at a text, which the next token alone leads through.
     ghost rule: { List ℕ → Rule Self.Value };
 
     ghost is_fine: { (text : List ℕ) → fine (rule text) ≡ true };

@@ -11,6 +11,7 @@ use og_list::List;
 use og_small::{Line, SmallGame, TypeDecl};
 use std::alloc::{AllocError, Global};
 
+/// Names in braces.
 #[tactic(auto, unfolding(crate::specs::Grammar::cases))]
 fn cases(alloc: Global, text: &[u8], tokens: &mut Tokens<'_>) -> Result<List<List<u8>>, Fault>
     ensures { Reads (spec.cases text.now) tokens.old result tokens.new }
@@ -21,6 +22,7 @@ fn cases(alloc: Global, text: &[u8], tokens: &mut Tokens<'_>) -> Result<List<Lis
     Ok(cases)
 }
 
+/// `type NAME = { NAME, .. };`
 #[tactic(auto, unfolding(crate::specs::Grammar::type_decl))]
 fn type_decl(alloc: Global, text: &[u8], tokens: &mut Tokens<'_>) -> Result<TypeDecl, Fault>
     ensures { Reads (spec.type_decl text.now) tokens.old result tokens.new }
@@ -33,6 +35,7 @@ fn type_decl(alloc: Global, text: &[u8], tokens: &mut Tokens<'_>) -> Result<Type
     Ok(TypeDecl { name, cases })
 }
 
+/// Types, as many as there are.
 #[tactic(auto, unfolding(crate::specs::Grammar::types))]
 fn types(alloc: Global, text: &[u8], tokens: &mut Tokens<'_>) -> Result<List<TypeDecl>, Fault>
     ensures { Reads (spec.types text.now) tokens.old result tokens.new }
@@ -44,6 +47,7 @@ fn types(alloc: Global, text: &[u8], tokens: &mut Tokens<'_>) -> Result<List<Typ
     Ok(types)
 }
 
+/// `game main =`
 #[tactic(auto, unfolding(crate::specs::Grammar::title))]
 fn title(text: &[u8], tokens: &mut Tokens<'_>) -> Result<Token, Fault>
     ensures { Reads (spec.title text.now) tokens.old result tokens.new }
@@ -54,6 +58,7 @@ fn title(text: &[u8], tokens: &mut Tokens<'_>) -> Result<Token, Fault>
     Ok(name)
 }
 
+/// What stands in a block before its lines: the empty fields and the separator.
 #[tactic(auto, unfolding(crate::specs::Grammar::head))]
 fn head(tokens: &mut Tokens<'_>) -> Result<Token, Fault>
     ensures { Reads spec.head tokens.old result tokens.new }
@@ -63,6 +68,7 @@ fn head(tokens: &mut Tokens<'_>) -> Result<Token, Fault>
     tokens.take(Kind::Separator)
 }
 
+/// What stands in a block behind its lines: the separator and the empty fields.
 #[tactic(auto, unfolding(crate::specs::Grammar::foot))]
 fn foot(tokens: &mut Tokens<'_>) -> Result<Token, Fault>
     ensures { Reads spec.foot tokens.old result tokens.new }
@@ -73,6 +79,7 @@ fn foot(tokens: &mut Tokens<'_>) -> Result<Token, Fault>
     Ok(separator)
 }
 
+/// The lines of a block, with what stands round them.
 #[tactic(auto, unfolding(crate::specs::Grammar::parts))]
 fn parts(alloc: Global, text: &[u8], tokens: &mut Tokens<'_>) -> Result<List<Line>, Fault>
     ensures { Reads (spec.parts text.now) tokens.old result tokens.new }
@@ -83,6 +90,7 @@ fn parts(alloc: Global, text: &[u8], tokens: &mut Tokens<'_>) -> Result<List<Lin
     Ok(lines)
 }
 
+/// `block { .. }`
 #[tactic(auto, unfolding(crate::specs::Grammar::block))]
 fn block(alloc: Global, text: &[u8], tokens: &mut Tokens<'_>) -> Result<List<Line>, Fault>
     ensures { Reads (spec.block text.now) tokens.old result tokens.new }
@@ -94,6 +102,7 @@ fn block(alloc: Global, text: &[u8], tokens: &mut Tokens<'_>) -> Result<List<Lin
     Ok(lines)
 }
 
+/// A whole small game.
 #[tactic(auto, unfolding(crate::specs::Grammar::game))]
 fn game(alloc: Global, text: &[u8], tokens: &mut Tokens<'_>) -> Result<SmallGame, Fault>
     ensures { Reads (spec.game text.now) tokens.old result tokens.new }

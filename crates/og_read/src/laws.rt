@@ -10,8 +10,8 @@ use og_grammar::Language;
 use og_list::List;
 use og_small::{Section, SmallGame};
 
-/// The language of small games.
-pub struct SmallGames;
+/// Names the language of small games.
+pub enum SmallGames {}
 
 impl Language for SmallGames {
     type Value = SmallGame;
@@ -24,8 +24,8 @@ impl Language for SmallGames {
     ghost is_fine = { game_fine };
 }
 
-/// The language of strategies.
-pub struct Strategies;
+/// Names the language of strategies.
+pub enum Strategies {}
 
 impl Language for Strategies {
     type Value = List<Section>;

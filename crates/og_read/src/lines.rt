@@ -11,6 +11,7 @@ use og_list::List;
 use og_small::{Key, Line, Row};
 use std::alloc::Global;
 
+/// `KEYWORD : ;`, or nothing.
 #[tactic(auto, unfolding(crate::specs::Grammar::empty_field))]
 pub fn empty_field(tokens: &mut Tokens<'_>, keyword: Word) -> Result<(), Fault>
     ensures { Reads (spec.empty_field keyword) tokens.old result tokens.new }
@@ -23,7 +24,7 @@ pub fn empty_field(tokens: &mut Tokens<'_>, keyword: Word) -> Result<(), Fault>
     Ok(())
 }
 
-/// The agent and the type of a decision.
+/// `dependentDecision TEXT [] NAME`, for the agent and the type.
 #[tactic(auto, unfolding(crate::specs::Grammar::decision))]
 fn decision(
     alloc: Global,
@@ -40,6 +41,7 @@ fn decision(
     Ok((agent, action))
 }
 
+/// `operation : DECISION ;`
 #[tactic(auto, unfolding(crate::specs::Grammar::operation))]
 fn operation(
     alloc: Global,
@@ -55,6 +57,7 @@ fn operation(
     Ok(decision)
 }
 
+/// `outputs : NAME ;`
 #[tactic(auto, unfolding(crate::specs::Grammar::output))]
 fn output(alloc: Global, text: &[u8], tokens: &mut Tokens<'_>) -> Result<List<u8>, Fault>
     ensures { Reads (spec.output text.now) tokens.old result tokens.new }
@@ -66,6 +69,7 @@ fn output(alloc: Global, text: &[u8], tokens: &mut Tokens<'_>) -> Result<List<u8
     Ok(output)
 }
 
+/// `returns : TABLE`
 #[tactic(auto, unfolding(crate::specs::Grammar::payment))]
 fn payment(
     alloc: Global,
@@ -79,6 +83,7 @@ fn payment(
     table(alloc, text, tokens)
 }
 
+/// A decision: what is empty, the operation, the output and the payment.
 #[tactic(auto, unfolding(crate::specs::Grammar::line))]
 fn line(alloc: Global, text: &[u8], tokens: &mut Tokens<'_>) -> Result<Line, Fault>
     ensures { Reads (spec.line text.now) tokens.old result tokens.new }
@@ -107,6 +112,7 @@ fn begins_line(text: &[u8], tokens: &Tokens<'_>) -> bool
         || tokens.sees(Kind::Word(Word::Operation))
 }
 
+/// Lines, as many as there are.
 #[tactic(auto, unfolding(crate::specs::Grammar::lines))]
 pub fn lines(alloc: Global, text: &[u8], tokens: &mut Tokens<'_>) -> Result<List<Line>, Fault>
     ensures { Reads (spec.lines text.now) tokens.old result tokens.new }

@@ -10,6 +10,7 @@ use og_list::List;
 use og_small::Section;
 use std::alloc::{AllocError, Global};
 
+/// `() -> NAME;`
 #[tactic(auto, unfolding(crate::specs::Grammar::choice))]
 fn choice(alloc: Global, text: &[u8], tokens: &mut Tokens<'_>) -> Result<List<u8>, Fault>
     ensures { Reads (spec.choice text.now) tokens.old result tokens.new }
@@ -22,6 +23,7 @@ fn choice(alloc: Global, text: &[u8], tokens: &mut Tokens<'_>) -> Result<List<u8
     Ok(choice)
 }
 
+/// `strategy TEXT { () -> NAME; }`
 #[tactic(auto, unfolding(crate::specs::Grammar::section))]
 fn section(alloc: Global, text: &[u8], tokens: &mut Tokens<'_>) -> Result<Section, Fault>
     ensures { Reads (spec.section text.now) tokens.old result tokens.new }
@@ -34,6 +36,7 @@ fn section(alloc: Global, text: &[u8], tokens: &mut Tokens<'_>) -> Result<Sectio
     Ok(Section { agent, choice })
 }
 
+/// Sections, as many as there are.
 #[tactic(auto, unfolding(crate::specs::Grammar::strategy))]
 fn strategy(alloc: Global, text: &[u8], tokens: &mut Tokens<'_>) -> Result<List<Section>, Fault>
     ensures { Reads (spec.strategy text.now) tokens.old result tokens.new }

@@ -8,6 +8,7 @@ use og_list::List;
 use og_small::{Key, Row};
 use std::alloc::Global;
 
+/// `NAME : NAME`
 #[tactic(auto, unfolding(crate::specs::Grammar::key))]
 fn key(alloc: Global, text: &[u8], tokens: &mut Tokens<'_>) -> Result<Key, Fault>
     ensures { Reads (spec.key text.now) tokens.old result tokens.new }
@@ -18,6 +19,7 @@ fn key(alloc: Global, text: &[u8], tokens: &mut Tokens<'_>) -> Result<Key, Fault
     Ok(Key { output, action })
 }
 
+/// `, NAME : NAME`
 #[tactic(auto, unfolding(crate::specs::Grammar::next_key))]
 fn next_key(alloc: Global, text: &[u8], tokens: &mut Tokens<'_>) -> Result<Key, Fault>
     ensures { Reads (spec.next_key text.now) tokens.old result tokens.new }
@@ -26,6 +28,7 @@ fn next_key(alloc: Global, text: &[u8], tokens: &mut Tokens<'_>) -> Result<Key, 
     key(alloc, text, tokens)
 }
 
+/// One or more keys, with commas between.
 #[tactic(auto, unfolding(crate::specs::Grammar::keys))]
 fn keys(alloc: Global, text: &[u8], tokens: &mut Tokens<'_>) -> Result<List<Key>, Fault>
     ensures { Reads (spec.keys text.now) tokens.old result tokens.new }
@@ -38,6 +41,7 @@ fn keys(alloc: Global, text: &[u8], tokens: &mut Tokens<'_>) -> Result<List<Key>
     Ok(keys)
 }
 
+/// Keys in parentheses.
 #[tactic(auto, unfolding(crate::specs::Grammar::columns))]
 fn columns(alloc: Global, text: &[u8], tokens: &mut Tokens<'_>) -> Result<List<Key>, Fault>
     ensures { Reads (spec.columns text.now) tokens.old result tokens.new }
@@ -48,6 +52,7 @@ fn columns(alloc: Global, text: &[u8], tokens: &mut Tokens<'_>) -> Result<List<K
     Ok(keys)
 }
 
+/// Names in parentheses.
 #[tactic(auto, unfolding(crate::specs::Grammar::outcome))]
 fn outcome(alloc: Global, text: &[u8], tokens: &mut Tokens<'_>) -> Result<List<List<u8>>, Fault>
     ensures { Reads (spec.outcome text.now) tokens.old result tokens.new }
@@ -58,6 +63,7 @@ fn outcome(alloc: Global, text: &[u8], tokens: &mut Tokens<'_>) -> Result<List<L
     Ok(cases)
 }
 
+/// `(NAME, ..) -> NUMBER;`
 #[tactic(auto, unfolding(crate::specs::Grammar::row))]
 fn row(alloc: Global, text: &[u8], tokens: &mut Tokens<'_>) -> Result<Row, Fault>
     ensures { Reads (spec.row text.now) tokens.old result tokens.new }
@@ -69,6 +75,7 @@ fn row(alloc: Global, text: &[u8], tokens: &mut Tokens<'_>) -> Result<Row, Fault
     Ok(Row { cases, pay })
 }
 
+/// Rows, as many as there are.
 #[tactic(auto, unfolding(crate::specs::Grammar::rows))]
 fn rows(alloc: Global, text: &[u8], tokens: &mut Tokens<'_>) -> Result<List<Row>, Fault>
     ensures { Reads (spec.rows text.now) tokens.old result tokens.new }
@@ -80,6 +87,7 @@ fn rows(alloc: Global, text: &[u8], tokens: &mut Tokens<'_>) -> Result<List<Row>
     Ok(rows)
 }
 
+/// Rows in braces.
 #[tactic(auto, unfolding(crate::specs::Grammar::rows_inside))]
 fn rows_inside(alloc: Global, text: &[u8], tokens: &mut Tokens<'_>) -> Result<List<Row>, Fault>
     ensures { Reads (spec.rows_inside text.now) tokens.old result tokens.new }
@@ -90,6 +98,7 @@ fn rows_inside(alloc: Global, text: &[u8], tokens: &mut Tokens<'_>) -> Result<Li
     Ok(rows)
 }
 
+/// `table (KEY, ..) { ROW .. };`
 #[tactic(auto, unfolding(crate::specs::Grammar::table))]
 pub fn table(
     alloc: Global,

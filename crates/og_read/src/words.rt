@@ -31,6 +31,7 @@ fn copy(alloc: Global, bytes: &[u8]) -> Result<List<u8>, AllocError>
     Ok(made)
 }
 
+/// The bytes of a name.
 #[tactic(auto, unfolding(crate::specs::Grammar::name))]
 pub fn name(alloc: Global, text: &[u8], tokens: &mut Tokens<'_>) -> Result<List<u8>, Fault>
     ensures { Reads (spec.name text.now) tokens.old result tokens.new }
@@ -39,6 +40,7 @@ pub fn name(alloc: Global, text: &[u8], tokens: &mut Tokens<'_>) -> Result<List<
     Ok(copy(alloc, part(text, token.start as usize, token.end as usize))?)
 }
 
+/// The bytes of a text, without its quotes.
 #[tactic(auto, unfolding(crate::specs::Grammar::quoted))]
 pub fn quoted(alloc: Global, text: &[u8], tokens: &mut Tokens<'_>) -> Result<List<u8>, Fault>
     ensures { Reads (spec.quoted text.now) tokens.old result tokens.new }
@@ -49,6 +51,7 @@ pub fn quoted(alloc: Global, text: &[u8], tokens: &mut Tokens<'_>) -> Result<Lis
     Ok(copy(alloc, part(text, start, end))?)
 }
 
+/// The value of a number.
 #[tactic(auto, unfolding(crate::specs::Grammar::number))]
 pub fn number(tokens: &mut Tokens<'_>) -> Result<u64, Fault>
     ensures { Reads spec.number tokens.old result tokens.new }
@@ -59,6 +62,7 @@ pub fn number(tokens: &mut Tokens<'_>) -> Result<u64, Fault>
     }
 }
 
+/// `, NAME`
 #[tactic(auto, unfolding(crate::specs::Grammar::next_name))]
 fn next_name(alloc: Global, text: &[u8], tokens: &mut Tokens<'_>) -> Result<List<u8>, Fault>
     ensures { Reads (spec.next_name text.now) tokens.old result tokens.new }
@@ -67,6 +71,7 @@ fn next_name(alloc: Global, text: &[u8], tokens: &mut Tokens<'_>) -> Result<List
     name(alloc, text, tokens)
 }
 
+/// `NAME, NAME, ..`, one or more.
 #[tactic(auto, unfolding(crate::specs::Grammar::names))]
 pub fn names(alloc: Global, text: &[u8], tokens: &mut Tokens<'_>) -> Result<List<List<u8>>, Fault>
     ensures { Reads (spec.names text.now) tokens.old result tokens.new }
@@ -79,7 +84,7 @@ pub fn names(alloc: Global, text: &[u8], tokens: &mut Tokens<'_>) -> Result<List
     Ok(names)
 }
 
-/// Takes the name `main`.
+/// The token of the name `main`.
 #[tactic(auto, unfolding(crate::specs::Grammar::main, og_grammar::specs::Reading::read_token))]
 pub fn main_name(text: &[u8], tokens: &mut Tokens<'_>) -> Result<Token, Fault>
     ensures { Reads (spec.main text.now) tokens.old result tokens.new }
