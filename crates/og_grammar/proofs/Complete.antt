@@ -1,0 +1,92 @@
+-- What is spelled is read, whatever follows that the rule wouldn't go on with.
+use Rattle.std.proofs.Common.{◌≡◌, ℕ, zero, suc, ◌≤◌, Bool, true, false, not, ◌&&◌, List, [], ◌∷◌, ◌++◌, length, Some, inl, inr, refl, ap, arith, append_assoc, length-append}
+use Rattle.std.proofs.lemmas.Bool.{and_parts, not-true}
+use Rattle.og_lex.specs.declared.token.Token.{Token}
+use Rattle.og_lex.specs.declared.token.Kind.{Kind}
+use Rattle.og_grammar.specs.Rule.{Rule, one, give, seq, alt, star, map, spells, IsToken, EachInTurn}
+use Rattle.og_grammar.specs.Reading.{apart, kinds_if, sees_any, nullable, first, more, fine, Outcome, and_then, with_value, read_token, read_each, read_all, read}
+use Rattle.og_grammar.proofs.Sets.{sees_none, sees_apart, stops_left, stops_right}
+use Rattle.og_grammar.proofs.Starts.{Starts, starts, starts_each}
+
+token_again : (k : Kind) (test : Token → Bool) (xs rest : List Token) (t : Token) → IsToken k test xs t → read_token k test (xs ++ rest) ≡ Some (t, rest)
+unfolding read_token
+token_again k test xs rest t p = rw (p.0, p.1, p.2) refl
+
+seq_again : {A B : Type 0} (r : Outcome A) (g : List Token → Outcome B) (a : A) (b : B) (mid rest : List Token) → r ≡ Some (a, mid) → g mid ≡ Some (b, rest)
+    → and_then {B = A × B} r (λ x more. with_value (λ y. (x, y)) (g more)) ≡ Some ((a, b), rest)
+seq_again r g a b mid rest p q = rw (p, q) refl
+
+-- What is spelled behind a part doesn't go on with it, nor what comes after both.
+after_part : (b : Bool) (mores firsts : List Kind) (ys rest : List Token) → apart mores firsts ≡ true → Starts b firsts ys → sees_any (kinds_if b mores) rest ≡ false → sees_any mores (ys ++ rest) ≡ false
+after_part b mores firsts ys rest e (inl (p, q)) stop = let s = rw q at stop in rw p s
+after_part b mores firsts ys rest e (inr f) stop = sees_apart mores firsts (ys ++ rest) e (f rest)
+
+-- what can't be empty begins with a first kind
+pub begins : (b : Bool) (ks : List Kind) (xs rest : List Token) → b ≡ false → Starts b ks xs → sees_any ks (xs ++ rest) ≡ true
+begins b ks xs rest e (inl (p, q)) = cc
+begins b ks xs rest e (inr f) = f rest
+
+pub seen_length : (ks : List Kind) (ts : List Token) → sees_any ks ts ≡ true → 1 ≤ length ts
+seen_length ks [] e = let none = sees_none ks in cc
+seen_length ks (t ∷ ts) e = omega arith
+
+each_again : {A : Type 0} (f : List Token → A → Type 0) (item : List Token → Outcome A) (b : Bool) (firsts mores : List Kind) → b ≡ false → apart mores firsts ≡ true
+    → ((xs : List Token) (a : A) → f xs a → Starts b firsts xs)
+    → ((xs rest : List Token) (a : A) → f xs a → sees_any mores rest ≡ false → item (xs ++ rest) ≡ Some (a, rest))
+    → (vs : List A) (xs rest : List Token) (n : ℕ) → EachInTurn f xs vs → sees_any mores rest ≡ false → sees_any firsts rest ≡ false → length (xs ++ rest) ≤ n
+    → read_each firsts item n (xs ++ rest) ≡ Some (vs, rest)
+unfolding read_each
+each_again f item b firsts mores e set begin again [] xs rest zero p s t le = rw p refl
+each_again f item b firsts mores e set begin again [] xs rest (suc n) p s t le = rw (p, t) refl
+each_again f item b firsts mores e set begin again (v ∷ vs) xs rest zero (ys, zs, cut, p, q) s t le =
+    let seen = begins b firsts ys (zs ++ rest) e (begin ys v p) in
+    let long = seen_length firsts (ys ++ (zs ++ rest)) seen in
+    let same : xs ++ rest ≡ ys ++ (zs ++ rest) = rw (cut, append_assoc ys zs rest) refl in
+    absurd (omega (arith, long, le, ap length same))
+each_again f item b firsts mores e set begin again (v ∷ vs) xs rest (suc n) (ys, zs, cut, p, q) s t le =
+    let seen = begins b firsts ys (zs ++ rest) e (begin ys v p) in
+    let long = seen_length firsts (ys ++ []) (begins b firsts ys [] e (begin ys v p)) in
+    let same : xs ++ rest ≡ ys ++ (zs ++ rest) = rw (cut, append_assoc ys zs rest) refl in
+    let fits : length (zs ++ rest) ≤ n = omega (arith, long, le, ap length same, length-append ys (zs ++ rest), length-append ys []) in
+    let stop = after_part true mores firsts zs rest set (starts_each b firsts f begin vs zs q) s in
+    let one_is = again ys (zs ++ rest) v p stop in
+    let others_are = each_again f item b firsts mores e set begin again vs zs rest n q s t fits in
+    rw (same, seen, one_is, others_are) refl
+
+seq_fine : (a b c : Bool) → (a && (b && c)) ≡ true → (a ≡ true) × (b ≡ true) × (c ≡ true)
+seq_fine a b c e = let p = and_parts a (b && c) e in let q = and_parts b c p.1 in (p.0, q.0, q.1)
+
+-- a rule of two, or three, that is fine
+alt_fine : (a b c d : Bool) → (a && (b && (not c && d))) ≡ true → (a ≡ true) × (b ≡ true) × (c ≡ false) × (d ≡ true)
+alt_fine a b c d e =
+    let p = seq_fine a b (not c && d) e in let q = and_parts (not c) d p.2 in (p.0, p.1, not-true c q.0, q.1)
+
+pub star_fine : (a b c : Bool) → (a && (not b && c)) ≡ true → (a ≡ true) × (b ≡ false) × (c ≡ true)
+star_fine a b c e = let p = seq_fine a (not b) c e in (p.0, not-true b p.1, p.2)
+
+pub complete : {A : Type 0} (f : Rule A) → fine f ≡ true → (xs rest : List Token) (a : A) → spells f xs a → sees_any (more f) rest ≡ false → read f (xs ++ rest) ≡ Some (a, rest)
+unfolding read_all
+complete (one k test) e xs rest a p s = token_again k test xs rest a p
+complete (give b) e xs rest a p s = rw (p.0, p.1) refl
+complete (seq f g) e xs rest a (ys, zs, cut, p, q) s =
+    let fines = seq_fine (fine f) (fine g) (apart (more f) (first g)) e in
+    let stop = stops_right (more g) (kinds_if (nullable g) (more f)) rest s in
+    let mid = after_part (nullable g) (more f) (first g) zs rest fines.2 (starts g zs a.1 q) stop in
+    let f_is = complete f fines.0 ys (zs ++ rest) a.0 p mid in
+    let g_is = complete g fines.1 zs rest a.1 q (stops_left (more g) (kinds_if (nullable g) (more f)) rest s) in
+    let same : xs ++ rest ≡ ys ++ (zs ++ rest) = rw (cut, append_assoc ys zs rest) refl in
+    rw same (seq_again (read f (ys ++ (zs ++ rest))) (read g) a.0 a.1 (zs ++ rest) rest f_is g_is)
+complete (alt f g) e xs rest a (inl p) s =
+    let fines = alt_fine (fine f) (fine g) (nullable f) (apart (first f) (first g)) e in
+    let seen = begins (nullable f) (first f) xs rest fines.2 (starts f xs a p) in
+    rw seen (complete f fines.0 xs rest a p (stops_left (more f) (more g ++ kinds_if (nullable g) (first f)) rest s))
+complete (alt f g) e xs rest a (inr p) s =
+    let fines = alt_fine (fine f) (fine g) (nullable f) (apart (first f) (first g)) e in
+    let stop = stops_right (more f) (more g ++ kinds_if (nullable g) (first f)) rest s in
+    let unseen = after_part (nullable g) (first f) (first g) xs rest fines.3 (starts g xs a p) (stops_right (more g) (kinds_if (nullable g) (first f)) rest stop) in
+    rw unseen (complete g fines.1 xs rest a p (stops_left (more g) (kinds_if (nullable g) (first f)) rest stop))
+complete (star f) e xs rest a p s =
+    let fines = star_fine (fine f) (nullable f) (apart (more f) (first f)) e in
+    each_again (spells f) (read f) (nullable f) (first f) (more f) fines.1 fines.2 (λ ys b q. starts f ys b q) (λ ys after b q stop. complete f fines.0 ys after b q stop)
+    a xs rest (length (xs ++ rest)) p (stops_left (more f) (first f) rest s) (stops_right (more f) (first f) rest s) (omega arith)
+complete (map h f) e xs rest a (b, p, value) s = rw (complete f e xs rest b p s, value) refl

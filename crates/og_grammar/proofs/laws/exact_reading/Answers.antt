@@ -1,0 +1,5 @@
+use Rattle.og_grammar.proofs.Whole.{IsExact-rule}
+use Rattle.og_grammar.proofs.laws.exact_reading.Goals as goal
+
+pub returns : goal.returns
+returns g c text = IsExact-rule (g.L.Language.rule text) (g.L.Language.is_fine text)

@@ -1,0 +1,36 @@
+-- What a reader of a rule promises, and the laws that any rule that is fine has.
+use Rattle.std.specs.Prelude.{◌≡◌, false, List, ◌++◌, Option, Some, MatchOption}
+use Rattle.og_lex.specs.declared.token.Token.{Token}
+use Rattle.og_lex.specs.declared.token.Kind.{Kind}
+use Rattle.og_lex.specs.declared.token.Kind.TheVariants.{Number}
+use Rattle.og_grammar.specs.Rule.{Rule, spells}
+use Rattle.og_grammar.specs.Reading.{more, read, read_whole, sees_any}
+
+-- the value for which the whole list is spelled, or None where there is none
+abbrev pub IsSpelled : {A : Type 0} → Rule A → List Token → Option A → Type 0
+IsSpelled {A} rule ts found = MatchOption found ((a : A) → spells rule ts a → ⊥) (spells rule ts)
+
+-- Some of the tokens are spelled for the value, and the rest follows.
+abbrev pub IsFront : {A : Type 0} → Rule A → List Token → A → List Token → Type 0
+IsFront rule ts a rest = (front : List Token) × (ts ≡ front ++ rest) × spells rule front a
+
+-- what is read is spelled
+abbrev pub IsSound : {A : Type 0} → Rule A → Type 0
+IsSound {A} rule = (ts rest : List Token) (a : A) → read rule ts ≡ Some (a, rest) → IsFront rule ts a rest
+
+-- what is spelled is read, whatever follows that the rule wouldn't go on with
+abbrev pub IsComplete : {A : Type 0} → Rule A → Type 0
+IsComplete {A} rule = (front rest : List Token) (a : A) → spells rule front a → sees_any (more rule) rest ≡ false → read rule (front ++ rest) ≡ Some (a, rest)
+
+-- a list spells at most one value
+abbrev pub IsSingle : {A : Type 0} → Rule A → Type 0
+IsSingle {A} rule = (ts : List Token) (a b : A) → spells rule ts a → spells rule ts b → a ≡ b
+
+-- reading a whole list gives a value exactly where one is spelled
+abbrev pub IsExact : {A : Type 0} → Rule A → Type 0
+IsExact rule = (ts : List Token) → IsSpelled rule ts (read_whole rule ts)
+
+-- equal, but for the value of a number
+abbrev pub IsSameKind : Kind → Kind → Type 0
+IsSameKind (Number _) (Number _) = Unit {0}
+IsSameKind k l = k ≡ l

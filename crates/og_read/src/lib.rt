@@ -1,0 +1,16 @@
+//! Readers of small games and of strategies.
+#![tactic(auto)]
+
+mod games;
+mod laws;
+mod lines;
+mod strategies;
+mod tables;
+mod words;
+
+pub use games::read_game;
+pub use laws::{SmallGames, Strategies, one_game, one_strategy};
+pub use strategies::read_strategy;
+
+#[cfg(test)]
+mod tests;
