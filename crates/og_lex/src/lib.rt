@@ -1,6 +1,11 @@
 //! The tokens of the language: names, numbers, texts, reserved words, marks and the separator.
 #![tactic(auto)]
 
+mod class;
+mod fault;
+mod reader;
+mod text;
 mod token;
 
+pub use fault::LexFault;
 pub use token::{Kind, Mark, Token, Word};

@@ -1,5 +1,7 @@
-ghost use Rattle.std.specs.Prelude.{◌≡◌};
-ghost use Rattle.og_lex.specs.Tables.{word_text, mark_text, all_words, all_marks};
+ghost use Rattle.std.specs.Prelude.{◌≡◌, IsTrue};
+ghost use Rattle.std.specs.List.{list_all};
+ghost use Rattle.og_lex.specs.Tables.{word_text, mark_text};
+ghost use Rattle.og_lex.specs.Characters.{is_ascii_char};
 
 /// What a token is.
 #[derive(Clone, Copy, Debug, PartialEq, Eq)]
@@ -177,7 +179,8 @@ impl Mark {
     /// How the mark is written.
     #[tactic(auto, unfolding(crate::specs::Tables::mark_text))]
     pub fn text(self) -> &'static str
-        ensures { result.now ≡ mark_text self }
+        ensures value { result.now ≡ mark_text self }
+        ensures ascii { IsTrue (list_all is_ascii_char result.now) }
     {
         match self {
             Mark::LeftBrace => "{",
