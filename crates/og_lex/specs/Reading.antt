@@ -44,7 +44,7 @@ unfoldable pub name_at : List ℕ → Kind × List ℕ
 name_at cs = (kind_of (word_of (run is_xid_continue cs)), behind is_xid_continue cs)
 
 unfoldable pub under_at : ℕ → List ℕ → Result (Kind × List ℕ) LexFault
-under_at place cs = if same (run is_xid_continue cs) (95 ∷ []) then Err (faults.BadChar place) else Ok (kinds.Under, behind is_xid_continue cs)
+under_at place cs = if nat_lt 1 (byte_len (run is_xid_continue cs)) then Ok (kinds.Under, behind is_xid_continue cs) else Err (faults.BadChar place)
 
 -- the value of one digit or more, if it is below 2 ^ 63
 abbrev pub number_of : List ℕ → Option ℕ
@@ -68,7 +68,7 @@ text_at place after = closed place (strip (34 ∷ []) (behind is_in_text after))
 
 -- what follows a separator whose first colon stands before these characters
 unfoldable pub separator_end : List ℕ → Option (List ℕ)
-separator_end after = if nat_lt (length (run is_hyphen after)) 3 then None else strip (58 ∷ []) (behind is_hyphen after)
+separator_end after = if nat_lt (byte_len (run is_hyphen after)) 3 then None else strip (58 ∷ []) (behind is_hyphen after)
 
 -- the first of the marks with which the characters begin, and what follows it
 abbrev pub or_mark : Mark → Option (List ℕ) → Option (Mark × List ℕ) → Option (Mark × List ℕ)
