@@ -1,3 +1,4 @@
+pub mod Numbers
 pub mod Strips
 pub mod Texts
 pub mod Tools
