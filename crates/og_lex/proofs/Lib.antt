@@ -1,5 +1,10 @@
 pub mod Numbers
+pub mod Pieces
+pub mod Runs
+pub mod Scans
+pub mod Sorts
 pub mod Strips
+pub mod Tabled
 pub mod Texts
 pub mod Tools
 pub mod Words

@@ -1,4 +1,5 @@
 -- Small facts about tests, options and lists.
+use Rattle.std.specs.Prelude.{Option, Some, None, Result, Ok, Err}
 use Rattle.std.proofs.Common.{◌≡◌, ◌⊎◌, inl, inr, ℕ, Bool, true, false, cond, ◌&&◌, ◌||◌, not, List, [], ◌∷◌, ◌++◌, refl, sym, ap, ◌∙◌}
 
 -- which way a choice went
@@ -19,3 +20,17 @@ pub both-yes : (a b : Bool) → a ≡ true → b ≡ true → (a && b) ≡ true
 both-yes true true e f = refl
 both-yes true false e f = f
 both-yes false b e f = e
+
+pub either : (a b : Bool) → (a || b) ≡ true → (a ≡ true) ⊎ (b ≡ true)
+either true b e = inl refl
+either false b e = inr e
+
+-- what an option or an outcome holds
+pub some-same : {A : Type 0} (x y : A) → Some x ≡ Some y → x ≡ y
+some-same x y e = cc
+
+pub ok-same : {A E : Type 0} (x y : A) → Ok {E = E} x ≡ Ok y → x ≡ y
+ok-same x y e = cc
+
+pub err-same : {A E : Type 0} (x y : E) → Err {T = A} x ≡ Err y → x ≡ y
+err-same x y e = cc

@@ -1,3 +1,4 @@
 pub mod Characters
 pub mod Reading
+pub mod Spelling
 pub mod Tables

@@ -119,6 +119,11 @@ piece_at place (c ∷ cs) =
   if is_blank c then Ok (None, cs)
   else or_comment (strip (codes "//") (c ∷ cs)) (with_kind (token_at place (c ∷ cs)))
 
+-- the tokens, and after them that of the kind, if there is one
+abbrev pub with_token_of : List Token → Option Kind → ℕ → ℕ → List Token
+with_token_of ts None start end = ts
+with_token_of ts (Some kind) start end = ts ++ record { kind = kind; start = start; end = end } ∷ []
+
 -- Reads on after a piece of a text of which cs is left. next reads from a place.
 abbrev pub with_token : Token → Result (List Token) LexFault → Result (List Token) LexFault
 with_token token (Ok tokens) = Ok (token ∷ tokens)

@@ -3,9 +3,14 @@
 
 mod class;
 mod fault;
+mod lexer;
 mod reader;
 mod text;
 mod token;
 
 pub use fault::LexFault;
+pub use lexer::lex;
 pub use token::{Kind, Mark, Token, Word};
+
+#[cfg(test)]
+mod tests;
