@@ -1,5 +1,7 @@
+pub mod Lengths
 pub mod Numbers
 pub mod Pieces
+pub mod Readings
 pub mod Runs
 pub mod Scans
 pub mod Sorts

@@ -10,6 +10,7 @@ use Rattle.og_lex.specs.declared.fault.LexFault.{LexFault}
 use Rattle.og_lex.specs.Characters.{byte_len}
 use Rattle.og_lex.specs.Spelling.{with_piece}
 use Rattle.og_lex.specs.Reading.{Read, piece_at, with_token, go_on, scan, tokens, with_token_of}
+use Rattle.og_lex.proofs.Lengths.{byte_len-chars, byte_len-append, length-le-byte_len}
 use Rattle.og_lex.proofs.Pieces.{IsFound, piece-found}
 
 -- what was read before, and what is read after it
@@ -56,19 +57,6 @@ unfolding scan
 scan_step room place [] some h = absurd (some refl)
 scan_step zero place (c ∷ cs) some h = absurd (omega arith)
 scan_step (suc n) place (c ∷ cs) some h = (n, refl, refl)
-
--- the bytes of a text are those of its characters
-pub byte_len-chars : (text : List ℕ) → IsUtf8 text → byte_len (chars text) ≡ length text
-unfolding byte_len
-byte_len-chars text u = ap length (encodes-chars text u)
-
-pub byte_len-append : (xs ys : List ℕ) → byte_len (xs ++ ys) ≡ byte_len xs + byte_len ys
-unfolding byte_len
-byte_len-append xs ys = ap length (encodes-append xs ys) ∙ length-append (encode_utf8_all xs) (encode_utf8_all ys)
-
-pub length-le-byte_len : (xs : List ℕ) → length xs ≤ byte_len xs
-unfolding byte_len
-length-le-byte_len xs = length-le-encodes xs
 
 some-length : (xs : List ℕ) → xs ≢ [] → 0 < length xs
 some-length [] some = absurd (some refl)

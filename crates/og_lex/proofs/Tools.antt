@@ -29,8 +29,13 @@ either false b e = inr e
 pub some-same : {A : Type 0} (x y : A) → Some x ≡ Some y → x ≡ y
 some-same x y e = cc
 
-pub ok-same : {A E : Type 0} (x y : A) → Ok {E = E} x ≡ Ok y → x ≡ y
-ok-same x y e = cc
+pub ok-same : {A E : Type 0} (r : Result A E) (x y : A) → r ≡ Ok x → r ≡ Ok y → x ≡ y
+ok-same r x y e f = cc
 
-pub err-same : {A E : Type 0} (x y : E) → Err {T = A} x ≡ Err y → x ≡ y
-err-same x y e = cc
+pub err-same : {A E : Type 0} (r : Result A E) (x y : E) → r ≡ Err x → r ≡ Err y → x ≡ y
+err-same r x y e f = cc
+
+-- what holds both ways holds of a choice
+pub by_test : {A : Type 0} (P : A → Type 0) (b : Bool) (x y : A) → (b ≡ true → P x) → (b ≡ false → P y) → P (cond b x y)
+by_test P true x y f g = f refl
+by_test P false x y f g = g refl
