@@ -1,5 +1,6 @@
 pub mod Lengths
 pub mod Numbers
+pub mod Outcomes
 pub mod Pieces
 pub mod Readings
 pub mod Runs

@@ -1,4 +1,5 @@
 ghost use Rattle.std.specs.Prelude.{◌≡◌, ◌≢◌, ◌≤◌, ◌⊎◌, length, IfErr, MatchResult, OnOk};
+ghost use Rattle.og_lex.specs.Spelling.{Lexed};
 ghost use Rattle.og_lex.specs.Reading.{tokens, with_token_of};
 
 use og_list::List;
@@ -14,6 +15,7 @@ pub const MAX_TEXT: usize = 1_048_576;
 /// The tokens of the text, or the first place at which no token starts.
 pub fn lex(alloc: Global, text: &str) -> Result<List<Token>, LexFault>
     requires { length text.now ≤ MAX_TEXT }
+    ensures lexed { Lexed text.now result }
     ensures exact { (result ≡ Err LexFault.Memory) ⊎ (result ≡ tokens text.now) }
 {
     read(alloc, text)

@@ -1,0 +1,8 @@
+use Rattle.og_lex.proofs.Outcomes.{exact_from, lexed_exact}
+use Rattle.og_lex.proofs.lexer.lex.Goals as goal
+
+pub returns-clause-exact : goal.returns-clause-exact
+returns-clause-exact c = exact_from c.args.text.now c.read.result c.read.ensures
+
+pub returns-clause-lexed : goal.returns-clause-lexed
+returns-clause-lexed c = lexed_exact c.args.text.now c.read.result (exact_from c.args.text.now c.read.result c.read.ensures)
