@@ -2,9 +2,11 @@ pub mod Lengths
 pub mod Numbers
 pub mod Outcomes
 pub mod Pieces
+pub mod Placed
 pub mod Readings
 pub mod Runs
 pub mod Scans
+pub mod Single
 pub mod Sorts
 pub mod Strips
 pub mod Tabled

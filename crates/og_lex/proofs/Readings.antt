@@ -48,7 +48,7 @@ head-same c d cs ds e = cc
 tail-same : (c d : ℕ) (cs ds : List ℕ) → c ∷ cs ≡ d ∷ ds → cs ≡ ds
 tail-same c d cs ds e = cc
 
-begins-sort : (kind : Kind) (front rest : List ℕ) (c : ℕ) (cs : List ℕ) → front ++ rest ≡ c ∷ cs → Begins kind front rest → sort_of c ≡ kind_sort kind
+pub begins-sort : (kind : Kind) (front rest : List ℕ) (c : ℕ) (cs : List ℕ) → front ++ rest ≡ c ∷ cs → Begins kind front rest → sort_of c ≡ kind_sort kind
 begins-sort kind [] rest c cs e b = absurd (spelled-some kind [] b.spelled refl)
 begins-sort kind (d ∷ front) rest c cs e b = ap sort_of (sym (head-same d c (front ++ rest) cs e)) ∙ spelled-sort kind d front b.spelled
 

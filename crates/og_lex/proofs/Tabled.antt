@@ -104,10 +104,10 @@ unfolding all_marks mark_text descends
 marks-descend = refl
 
 -- the mark with the text
-named : List ℕ → Option Mark
+pub named : List ℕ → Option Mark
 named text = find (λ m. same (mark_text m) text) all_marks
 
-named-text : (m : Mark) → named (mark_text m) ≡ Some m
+pub named-text : (m : Mark) → named (mark_text m) ≡ Some m
 unfolding named all_marks mark_text
 named-text marks.LeftBrace = refl
 named-text marks.RightBrace = refl
@@ -135,8 +135,17 @@ named-text marks.Slash = refl
 named-text marks.Then = refl
 named-text marks.Beside = refl
 
-pub mark_text-apart : (m k : Mark) → mark_text m ≡ mark_text k → m ≡ k
-mark_text-apart m k e = let a = named-text m in let b = named-text k in let f = ap named e in cc
+find-named : (ms : List Mark) (text : List ℕ) (m : Mark) → find (λ k. same (mark_text k) text) ms ≡ Some m → text ≡ mark_text m
+find-named [] text m e = cc
+find-named (k ∷ ms) text m e =
+    elim (chosen (same (mark_text k) text) (Some k) (find (λ x. same (mark_text x) text) ms) (Some m) e) [
+      inl h ↦ let at = same-true (mark_text k) text h.0 in cc
+    | inr h ↦ find-named ms text m h.1
+    ]
+
+pub named-is : (text : List ℕ) (m : Mark) → named text ≡ Some m → text ≡ mark_text m
+unfolding named
+named-is text m e = find-named all_marks text m e
 
 short : (m : Mark) → nat_le (length (mark_text m)) 3 ≡ true
 unfolding mark_text

@@ -1,5 +1,6 @@
-ghost use Rattle.std.specs.Prelude.{◌≡◌, ◌≢◌, ◌≤◌, ◌⊎◌, length, IfErr, MatchResult, OnOk};
-ghost use Rattle.og_lex.specs.Spelling.{Lexed};
+ghost use Rattle.std.specs.Prelude.{◌≡◌, ◌≢◌, ◌≤◌, ◌⊎◌, length, IfErr, IfOk, MatchResult, OnOk};
+ghost use Rattle.std.specs.List.{AllByRecursion};
+ghost use Rattle.og_lex.specs.Spelling.{AreInOrder, IsTokenOf, Lexed};
 ghost use Rattle.og_lex.specs.Reading.{tokens, with_token_of};
 
 use og_list::List;
@@ -17,6 +18,8 @@ pub fn lex(alloc: Global, text: &str) -> Result<List<Token>, LexFault>
     requires { length text.now ≤ MAX_TEXT }
     ensures lexed { Lexed text.now result }
     ensures exact { (result ≡ Err LexFault.Memory) ⊎ (result ≡ tokens text.now) }
+    ensures order { IfOk result (AreInOrder 0 (length text.now)) }
+    ensures each { IfOk result (AllByRecursion (IsTokenOf text.now)) }
 {
     read(alloc, text)
 }

@@ -3,13 +3,15 @@
 
 mod class;
 mod fault;
+mod laws;
 mod lexer;
 mod reader;
 mod text;
 mod token;
 
 pub use fault::LexFault;
-pub use lexer::lex;
+pub use laws::{one_lexing, some_lexing};
+pub use lexer::{MAX_TEXT, lex};
 pub use token::{Kind, Mark, Token, Word};
 
 #[cfg(test)]
