@@ -16,8 +16,8 @@ pub run-all : (p : ℕ → Bool) (cs : List ℕ) → list_all p (run p cs) ≡ t
 run-all p [] = refl
 run-all p (c ∷ cs) =
     elim (either_way (p c)) [
-      inl holds ↦ ap (λ b. list_all p (cond b (c ∷ run p cs) [])) holds ∙ both-yes (p c) (list_all p (run p cs)) holds (run-all p cs)
-    | inr stops ↦ ap (λ b. list_all p (cond b (c ∷ run p cs) [])) stops
+      | inl holds ↦ ap (λ b. list_all p (cond b (c ∷ run p cs) [])) holds ∙ both-yes (p c) (list_all p (run p cs)) holds (run-all p cs)
+      | inr stops ↦ ap (λ b. list_all p (cond b (c ∷ run p cs) [])) stops
     ]
 
 pub digit-range : (c : ℕ) → is_digit c ≡ true → (48 ≤ c) × (c ≤ 57)
@@ -41,8 +41,8 @@ no_plus : (d : ℕ) (ds : List ℕ) → is_digit d ≡ true → without_leading_
 no_plus d ds e =
     let r = digit-range d e in
     elim (either_way (d == 43)) [
-      inl holds ↦ let at = eqb-true d 43 holds in absurd (omega arith)
-    | inr other ↦ ap (λ b. drop (cond b 1 0) (d ∷ ds)) other
+      | inl holds ↦ let at = eqb-true d 43 holds in absurd (omega arith)
+      | inr other ↦ ap (λ b. drop (cond b 1 0) (d ∷ ds)) other
     ]
 
 -- the value that was parsed, if it is below 2 ^ 63
@@ -59,11 +59,11 @@ parsed (d ∷ ds) (Ok n) a p =
 parsed (d ∷ ds) (Err e) a p =
     let plain = no_plus d ds (both (is_digit d) (list_all is_digit ds) a).0 in
     elim (either_way (nat_lt (digits_value 10 (d ∷ ds)) (2 ^ 63))) [
-      inl holds ↦
-        let small : digits_value 10 (d ∷ ds) < 2 ^ 64 = omega (arith, ltb-true (digits_value 10 (d ∷ ds)) (2 ^ 63) holds) in
-        let Is : List ℕ → Type 0 = λ l. IsNumeral 10 l × (digits_value 10 l < 2 ^ 64) in
-        absurd (p (subst Is (sym plain) ((omega arith, digits-all (d ∷ ds) a), small)))
-    | inr wide ↦ ap (λ b. cond b (Some (digits_value 10 (d ∷ ds))) None) wide
+      | inl holds ↦
+          let small : digits_value 10 (d ∷ ds) < 2 ^ 64 = omega (arith, ltb-true (digits_value 10 (d ∷ ds)) (2 ^ 63) holds) in
+          let Is : List ℕ → Type 0 = λ l. IsNumeral 10 l × (digits_value 10 l < 2 ^ 64) in
+          absurd (p (subst Is (sym plain) ((omega arith, digits-all (d ∷ ds) a), small)))
+      | inr wide ↦ ap (λ b. cond b (Some (digits_value 10 (d ∷ ds))) None) wide
     ]
 
 pub number_parsed : {E : Type 0} (cs : List ℕ) (r : Result ℕ E) → ParsesUnsigned 64 10 (encode_utf8_all (run is_digit cs)) r → number_of (run is_digit cs) ≡ below r

@@ -36,7 +36,7 @@ tokens-kept what front rest place ts s h = record {
   pieces = record { what = what; front = front } ∷ h.pieces;
   whole = ap (λ l. front ++ l) h.whole;
   each = (subst (Stands what front) (h.whole ∙ sym (append-nil (written h.pieces))) s, h.each);
-  same = ap (with_piece what place (place + byte_len front)) h.same
+  same = ap (with_piece what place (place + byte_len front)) h.same;
 }
 
 fault-kept : (what : Option Kind) (front rest : List ℕ) (place : ℕ) (fault : LexFault) → Stands what front rest → HasFault (place + byte_len front) rest fault → HasFault place (front ++ rest) fault
@@ -46,8 +46,8 @@ fault-kept what front rest place fault s h = record {
   whole = ap (λ l. front ++ l) h.whole ∙ sym (append_assoc front (written h.pieces) h.rest);
   each = (subst (Stands what front) h.whole s, h.each);
   cause =
-    let at : place + byte_len front + byte_len (written h.pieces) ≡ place + byte_len (front ++ written h.pieces) = omega (arith, byte_len-append front (written h.pieces)) in
-    subst (λ p. FaultAt p h.rest fault) at h.cause
+      let at : place + byte_len front + byte_len (written h.pieces) ≡ place + byte_len (front ++ written h.pieces) = omega (arith, byte_len-append front (written h.pieces)) in
+      subst (λ p. FaultAt p h.rest fault) at h.cause;
 }
 
 -- the place after a front
@@ -106,7 +106,7 @@ fault-lexed text fault h = record {
   rest = h.rest;
   whole = h.whole;
   each = h.each;
-  cause = subst (λ p. FaultAt p h.rest fault) (omega arith) h.cause
+  cause = subst (λ p. FaultAt p h.rest fault) (omega arith) h.cause;
 }
 
 pub lexed-from : (text : List ℕ) (r : Result (List Token) LexFault) → Has 0 (chars text) r → Lexed text r

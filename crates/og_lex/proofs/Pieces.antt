@@ -24,7 +24,6 @@ abbrev pub Shows : ℕ → List ℕ → Read → Type 0
 Shows place cs (Ok (what, rest)) = IsFound what cs rest
 Shows place cs (Err fault) = FaultAt place cs fault
 
-
 head-same : (c d : ℕ) (cs ds : List ℕ) → c ∷ cs ≡ d ∷ ds → c ≡ d
 head-same c d cs ds e = cc
 
@@ -38,7 +37,7 @@ comment-shown cs inside e =
       front = codes "//" ++ run is_in_comment inside;
       whole = whole ∙ ap (λ l. codes "//" ++ l) (run-behind is_in_comment inside);
       some = λ e. cc;
-      stands = inr (run is_in_comment inside, refl, run-all is_in_comment inside, behind-stops is_in_comment inside)
+      stands = inr (run is_in_comment inside, refl, run-all is_in_comment inside, behind-stops is_in_comment inside);
     }
 
 -- a comment stands where two slashes do
@@ -59,7 +58,7 @@ token-shown place c cs b n (Ok (kind, rest)) t = record {
   front = t.front;
   whole = t.whole;
   some = spelled-some kind t.front t.taken.begins.spelled;
-  stands = (t.taken, λ after e. no-comment (c ∷ cs) n after (t.whole ∙ e))
+  stands = (t.taken, λ after e. no-comment (c ∷ cs) n after (t.whole ∙ e));
 }
 token-shown place c cs b n (Err fault) t = (nothing-stands c cs b n t.0, t.1)
 
@@ -71,8 +70,8 @@ pub piece-shown : (place c : ℕ) (cs : List ℕ) → Shows place (c ∷ cs) (pi
 unfolding piece_at
 piece-shown place c cs =
     by_test (Shows place (c ∷ cs)) (is_blank c) (Ok (None, cs)) (or_comment (strip (codes "//") (c ∷ cs)) (with_kind (token_at place (c ∷ cs))))
-      (λ b. blank-shown place c cs b)
-      (λ b. commented place c cs b (strip (codes "//") (c ∷ cs)) refl)
+    (λ b. blank-shown place c cs b)
+    (λ b. commented place c cs b (strip (codes "//") (c ∷ cs)) refl)
 
 piece-none : (place : ℕ) (rest : List ℕ) (what : Option Kind) → piece_at place [] ≡ Ok (what, rest) → ⊥
 unfolding piece_at

@@ -32,8 +32,8 @@ in-order : (ps : List Piece) (rest : List ℕ) (place end : ℕ) → AllStand ps
 in-order [] rest place end s e = omega arith
 in-order (p ∷ ps) rest place end s e =
     one-in-order p.what place (place + byte_len p.front) end (tokens_of (place + byte_len p.front) ps)
-      (omega (arith, bytes-some p.what p.front (written ps ++ rest) s.0))
-      (in-order ps rest (place + byte_len p.front) end s.1 (omega (arith, e, byte_len-append p.front (written ps))))
+    (omega (arith, bytes-some p.what p.front (written ps ++ rest) s.0))
+    (in-order ps rest (place + byte_len p.front) end s.1 (omega (arith, e, byte_len-append p.front (written ps))))
 
 scalars-parts : (xs ys : List ℕ) → scalars (xs ++ ys) ≡ true → (scalars xs ≡ true) × (scalars ys ≡ true)
 scalars-parts [] ys e = (refl, e)
@@ -61,11 +61,13 @@ middle text before front after kind e u some s =
       within = omega (arith, ap length cut, length-append (b ++ f) a);
       begins = IsCharBoundary-at_seam text b (f ++ a) whole (front ++ after, (parts.1, back));
       ends = subst (IsCharBoundary text) here (IsCharBoundary-at_seam text (b ++ f) a cut (after, (later.1, refl)));
-      spelled = (front,
+      spelled = (
+        front,
         (let width : length b + length f - length b ≡ length f = omega arith in
-         let from : drop (length b) text ≡ f ++ a = ap (drop (length b)) whole ∙ drop-append_seam b (f ++ a) in
-         ap (λ n. take n (drop (length b) text)) width ∙ ap (take (length f)) from ∙ take-append_seam f a),
-        s)
+            let from : drop (length b) text ≡ f ++ a = ap (drop (length b)) whole ∙ drop-append_seam b (f ++ a) in
+            ap (λ n. take n (drop (length b) text)) width ∙ ap (take (length f)) from ∙ take-append_seam f a),
+        s,
+      );
     }
 
 one-written : (what : Option Kind) (text before front after : List ℕ) (ts : List Token) → text ≡ encode_utf8_all (before ++ (front ++ after)) → scalars (before ++ (front ++ after)) ≡ true → Stands what front (after ++ [])
@@ -81,7 +83,7 @@ each-written (p ∷ ps) text before s e u =
     let join : before ++ (p.front ++ written ps) ≡ next ++ written ps = sym (append_assoc before p.front (written ps)) in
     let more : AllByRecursion (IsTokenOf text) (tokens_of (byte_len next) ps) = each-written ps text next s.1 (e ∙ ap encode_utf8_all join) (ap scalars (sym join) ∙ u) in
     let there : AllByRecursion (IsTokenOf text) (tokens_of (byte_len before + byte_len p.front) ps) =
-        subst (λ n. AllByRecursion (IsTokenOf text) (tokens_of n ps)) (byte_len-append before p.front) more in
+    subst (λ n. AllByRecursion (IsTokenOf text) (tokens_of n ps)) (byte_len-append before p.front) more in
     one-written p.what text before p.front (written ps) (tokens_of (byte_len before + byte_len p.front) ps) e u s.0 there
 
 no-bytes : byte_len [] ≡ 0

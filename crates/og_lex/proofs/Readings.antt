@@ -79,15 +79,15 @@ name-told place c cs s =
     let goes : is_xid_continue c ≡ true = is_xid_start-is_xid_continue c s in
     let front : run is_xid_continue (c ∷ cs) ≡ c ∷ run is_xid_continue cs = run-yes is_xid_continue c cs goes in
     let name : is_name (run is_xid_continue (c ∷ cs)) ≡ true =
-        ap is_name front ∙ both-yes (is_xid_start c) (list_all is_xid_continue (run is_xid_continue cs)) s (run-all is_xid_continue cs) in
+    ap is_name front ∙ both-yes (is_xid_start c) (list_all is_xid_continue (run is_xid_continue cs)) s (run-all is_xid_continue cs) in
     let whole = run-behind is_xid_continue (c ∷ cs) in
     record {
       front = run is_xid_continue (c ∷ cs);
       whole = whole;
       taken = record {
         begins = name-begins (run is_xid_continue (c ∷ cs)) (behind is_xid_continue (c ∷ cs)) (word_of (run is_xid_continue (c ∷ cs))) name refl;
-        longest = λ kind f r e b. name-longest kind f r c cs (sort_of-starts c s) (e ∙ sym whole) b
-      }
+        longest = λ kind f r e b. name-longest kind f r c cs (sort_of-starts c s) (e ∙ sym whole) b;
+      };
     }
 
 -- an underscore
@@ -124,24 +124,29 @@ under-told place c cs at =
     let front : run is_xid_continue (c ∷ cs) ≡ c ∷ run is_xid_continue cs = run-yes is_xid_continue c cs goes in
     let whole = run-behind is_xid_continue (c ∷ cs) in
     by_test (Tells place c cs) (nat_lt 1 (byte_len (run is_xid_continue (c ∷ cs)))) (Ok (kinds.Under, behind is_xid_continue (c ∷ cs))) (Err (faults.BadChar place))
-      (λ long. record {
-        front = run is_xid_continue (c ∷ cs);
-        whole = whole;
-        taken = record {
-          begins = record {
-            spelled = (run is_xid_continue cs, front ∙ ap (λ x. x ∷ run is_xid_continue cs) at,
-              (λ none. let l : byte_len (run is_xid_continue (c ∷ cs)) ≡ byte_len (95 ∷ []) = ap byte_len (front ∙ ap (λ x. x ∷ run is_xid_continue cs) at ∙ ap (λ t. 95 ∷ t) none) in
+    (λ long. record {
+      front = run is_xid_continue (c ∷ cs);
+      whole = whole;
+      taken = record {
+        begins = record {
+          spelled = (
+            run is_xid_continue cs,
+            front ∙ ap (λ x. x ∷ run is_xid_continue cs) at,
+            (λ none. let l : byte_len (run is_xid_continue (c ∷ cs)) ≡ byte_len (95 ∷ []) = ap byte_len (front ∙ ap (λ x. x ∷ run is_xid_continue cs) at ∙ ap (λ t. 95 ∷ t) none) in
                 omega (arith, l, line_alone, ltb-true 1 (byte_len (run is_xid_continue (c ∷ cs))) long)),
-              run-all is_xid_continue cs);
-            may_end = tt
-          };
-          longest = λ kind f r e b. (under-longest kind f r c cs sort (e ∙ sym whole) b).0
-        }
-      })
-      (λ short. ((λ kind f r e b.
+            run-all is_xid_continue cs,
+          );
+          may_end = tt;
+        };
+        longest = λ kind f r e b. (under-longest kind f r c cs sort (e ∙ sym whole) b).0;
+      };
+    })
+    (λ short. (
+      (λ kind f r e b.
           let h = under-longest kind f r c cs sort e b in
           omega (arith, h.0, h.1, length-le-byte_len (run is_xid_continue (c ∷ cs)), ltb-false 1 (byte_len (run is_xid_continue (c ∷ cs))) short)),
-        ap (fault_of place) (sym at)))
+      ap (fault_of place) (sym at),
+    ))
 
 -- digits
 number-exact : (n : ℕ) (front rest cs : List ℕ) → front ++ rest ≡ cs → Begins (kinds.Number n) front rest → run is_digit cs ≡ front
@@ -167,22 +172,24 @@ number-told place c cs d =
     let sort : sort_of c ≡ digit = sort_of-digit c d in
     let Told : List ℕ → Type 0 = λ l. Tells place c cs (numbered place (number_of l) rest) in
     subst Told (sym front) (by_test (λ o. Tells place c cs (numbered place o rest)) (nat_lt (digits_value 10 (c ∷ ds)) (2 ^ 63)) (Some (digits_value 10 (c ∷ ds))) None
-      (λ small. record {
-        front = c ∷ ds;
-        whole = whole;
-        taken = record {
-          begins = record {
-            spelled = ((λ e. cc), both-yes (is_digit c) (list_all is_digit ds) d (run-all is_digit cs), refl, ltb-true (digits_value 10 (c ∷ ds)) (2 ^ 63) small);
-            may_end = behind-stops is_digit (c ∷ cs)
-          };
-          longest = λ kind f r e b. let h = number-only kind f r c cs sort (e ∙ sym whole) b in omega (arith, ap length (sym h.0 ∙ front))
-        }
-      })
-      (λ wide. ((λ kind f r e b.
+    (λ small. record {
+      front = c ∷ ds;
+      whole = whole;
+      taken = record {
+        begins = record {
+          spelled = ((λ e. cc), both-yes (is_digit c) (list_all is_digit ds) d (run-all is_digit cs), refl, ltb-true (digits_value 10 (c ∷ ds)) (2 ^ 63) small);
+          may_end = behind-stops is_digit (c ∷ cs);
+        };
+        longest = λ kind f r e b. let h = number-only kind f r c cs sort (e ∙ sym whole) b in omega (arith, ap length (sym h.0 ∙ front));
+      };
+    })
+    (λ wide. (
+      (λ kind f r e b.
           let h = number-only kind f r c cs sort e b in
           let v : digits_value 10 f ≡ digits_value 10 (c ∷ ds) = ap (digits_value 10) (sym h.0 ∙ front) in
           omega (arith, h.1, v, ltb-false (digits_value 10 (c ∷ ds)) (2 ^ 63) wide)),
-        sym (cond-true (is_digit c) (faults.WideNumber place) (cond (c == 34) (faults.OpenText place) (faults.BadChar place)) d))))
+      sym (cond-true (is_digit c) (faults.WideNumber place) (cond (c == 34) (faults.OpenText place) (faults.BadChar place)) d),
+    )))
 
 -- a double quote
 text-only : (kind : Kind) (front rest : List ℕ) (c : ℕ) (cs : List ℕ) → sort_of c ≡ quote → front ++ rest ≡ c ∷ cs → Begins kind front rest → strip (34 ∷ []) (behind is_in_text cs) ≡ Some rest
@@ -218,18 +225,19 @@ text-found place c cs rest at e =
       taken = record {
         begins = record { spelled = (inside, refl, run-all is_in_text cs); may_end = tt };
         longest = λ kind f r g b.
-          let here : f ++ r ≡ c ∷ cs = g ∙ sym whole in
-          let t = text-only kind f r c cs sort here b in
-          let one : r ≡ rest = some-same r rest (sym t ∙ e) in
-          omega (arith, same-length f r (34 ∷ (inside ++ 34 ∷ [])) rest (c ∷ cs) here (sym whole) one)
-      }
+            let here : f ++ r ≡ c ∷ cs = g ∙ sym whole in
+            let t = text-only kind f r c cs sort here b in
+            let one : r ≡ rest = some-same r rest (sym t ∙ e) in
+            omega (arith, same-length f r (34 ∷ (inside ++ 34 ∷ [])) rest (c ∷ cs) here (sym whole) one);
+      };
     }
 
 text-closed : (place c : ℕ) (cs : List ℕ) → c ≡ 34 → (o : Option (List ℕ)) → strip (34 ∷ []) (behind is_in_text cs) ≡ o → Tells place c cs (closed place o)
 text-closed place c cs at (Some rest) e = text-found place c cs rest at e
-text-closed place c cs at None e =
-    ((λ kind f r g b. let t = text-only kind f r c cs (ap sort_of at ∙ sort_of-ascii 34 (lit< tt)) g b in cc),
-     ap (fault_of place) (sym at))
+text-closed place c cs at None e = (
+  (λ kind f r g b. let t = text-only kind f r c cs (ap sort_of at ∙ sort_of-ascii 34 (lit< tt)) g b in cc),
+  ap (fault_of place) (sym at),
+)
 
 text-told : (place c : ℕ) (cs : List ℕ) → c ≡ 34 → Tells place c cs (text_at place cs)
 unfolding text_at
@@ -279,10 +287,11 @@ unfolding separator_end
 separator-parts c cs rest e =
     let a = taken-first (c == 58) (separator_end cs) rest e in
     let b = taken-second (nat_lt (byte_len (run is_hyphen cs)) 3) (strip (58 ∷ []) (behind is_hyphen cs)) rest a.1 in
-    let end : behind is_hyphen cs ≡ (58 ∷ []) ++ rest = strip-is (58 ∷ []) (behind is_hyphen cs) rest b.1 in
-    (eqb-true c 58 a.0,
-     omega (arith, ltb-false (byte_len (run is_hyphen cs)) 3 b.0, hyphens-length (run is_hyphen cs) (run-all is_hyphen cs)),
-     run-behind is_hyphen cs ∙ ap (λ l. run is_hyphen cs ++ l) end ∙ sym (append_assoc (run is_hyphen cs) (58 ∷ []) rest))
+    let end : behind is_hyphen cs ≡ (58 ∷ []) ++ rest = strip-is (58 ∷ []) (behind is_hyphen cs) rest b.1 in (
+      eqb-true c 58 a.0,
+      omega (arith, ltb-false (byte_len (run is_hyphen cs)) 3 b.0, hyphens-length (run is_hyphen cs) (run-all is_hyphen cs)),
+      run-behind is_hyphen cs ∙ ap (λ l. run is_hyphen cs ++ l) end ∙ sym (append_assoc (run is_hyphen cs) (58 ∷ []) rest),
+    )
 
 symbol-kinds : (kind : Kind) (front rest : List ℕ) (c : ℕ) (cs : List ℕ) → sort_of c ≡ symbol → front ++ rest ≡ c ∷ cs → Begins kind front rest
     → (separator_of c cs ≡ Some rest) ⊎ ((m : Mark) × (front ≡ mark_text m) × (strip (mark_text m) (c ∷ cs) ≡ Some rest))
@@ -307,12 +316,12 @@ separator-found c cs rest sort e =
       taken = record {
         begins = record { spelled = (hs, refl, run-all is_hyphen cs, p.1); may_end = tt };
         longest = λ kind f r g b.
-          let here : f ++ r ≡ c ∷ cs = g ∙ sym whole in
-          elim (symbol-kinds kind f r c cs sort here b) [
-            inl t ↦ omega (arith, same-length f r front rest (c ∷ cs) here (sym whole) (some-same r rest (sym t ∙ e)))
-          | inr t ↦ omega (arith, ap length t.1, mark-short t.0, p.1, length-append hs (58 ∷ []))
-          ]
-      }
+            let here : f ++ r ≡ c ∷ cs = g ∙ sym whole in
+            elim (symbol-kinds kind f r c cs sort here b) [
+              | inl t ↦ omega (arith, same-length f r front rest (c ∷ cs) here (sym whole) (some-same r rest (sym t ∙ e)))
+              | inr t ↦ omega (arith, ap length t.1, mark-short t.0, p.1, length-append hs (58 ∷ []))
+            ];
+      };
     }
 
 mark-found : (c : ℕ) (cs rest : List ℕ) (m : Mark) → sort_of c ≡ symbol → separator_of c cs ≡ None → mark_at (c ∷ cs) ≡ Some (m, rest) → IsTaken (kinds.Mark m) (c ∷ cs) rest
@@ -325,23 +334,24 @@ mark-found c cs rest m sort none e =
       taken = record {
         begins = record { spelled = refl; may_end = tt };
         longest = λ kind f r g b.
-          elim (symbol-kinds kind f r c cs sort (g ∙ sym whole) b) [
-            inl t ↦ absurd (none-some rest r (separator_of c cs) none t)
-          | inr t ↦ omega (arith, ap length t.1, found.1 t.0 r t.2)
-          ]
-      }
+            elim (symbol-kinds kind f r c cs sort (g ∙ sym whole) b) [
+              | inl t ↦ absurd (none-some rest r (separator_of c cs) none t)
+              | inr t ↦ omega (arith, ap length t.1, found.1 t.0 r t.2)
+            ];
+      };
     }
 
 symbol-separated : (place c : ℕ) (cs : List ℕ) → sort_of c ≡ symbol → is_digit c ≡ false → (c == 34) ≡ false
     → (s : Option (List ℕ)) → separator_of c cs ≡ s → (o : Option (Mark × List ℕ)) → mark_at (c ∷ cs) ≡ o → Tells place c cs (separated s (marked place o))
 symbol-separated place c cs sort d q (Some rest) e o f = separator-found c cs rest sort e
 symbol-separated place c cs sort d q None e (Some (m, rest)) f = mark-found c cs rest m sort e f
-symbol-separated place c cs sort d q None e None f =
-    ((λ kind front r g b. elim (symbol-kinds kind front r c cs sort g b) [
-        inl t ↦ none-some r r (separator_of c cs) e t
-      | inr t ↦ mark_at-none (c ∷ cs) r t.0 f t.2
-      ]),
-     sym (cond-false (is_digit c) (faults.WideNumber place) (cond (c == 34) (faults.OpenText place) (faults.BadChar place)) d ∙ cond-false (c == 34) (faults.OpenText place) (faults.BadChar place) q))
+symbol-separated place c cs sort d q None e None f = (
+  (λ kind front r g b. elim (symbol-kinds kind front r c cs sort g b) [
+    | inl t ↦ none-some r r (separator_of c cs) e t
+    | inr t ↦ mark_at-none (c ∷ cs) r t.0 f t.2
+  ]),
+  sym (cond-false (is_digit c) (faults.WideNumber place) (cond (c == 34) (faults.OpenText place) (faults.BadChar place)) d ∙ cond-false (c == 34) (faults.OpenText place) (faults.BadChar place) q),
+)
 
 symbol-told : (place c : ℕ) (cs : List ℕ) → sort_of c ≡ symbol → is_digit c ≡ false → (c == 34) ≡ false → Tells place c cs (symbol_at place c cs (c ∷ cs))
 unfolding symbol_at
@@ -360,11 +370,11 @@ pub token-told : (place c : ℕ) (cs : List ℕ) → is_blank c ≡ false → Te
 unfolding token_at
 token-told place c cs b =
     by_test (Tells place c cs) (is_xid_start c) (Ok (name_at (c ∷ cs))) (cond (c == 95) (under_at place (c ∷ cs)) (cond (is_digit c) (number_at place (c ∷ cs)) (cond (c == 34) (text_at place cs) (symbol_at place c cs (c ∷ cs)))))
-      (λ starts. name-told place c cs starts)
-      (λ s. by_test (Tells place c cs) (c == 95) (under_at place (c ∷ cs)) (cond (is_digit c) (number_at place (c ∷ cs)) (cond (c == 34) (text_at place cs) (symbol_at place c cs (c ∷ cs))))
-        (λ at. under-told place c cs (eqb-true c 95 at))
-        (λ u. by_test (Tells place c cs) (is_digit c) (number_at place (c ∷ cs)) (cond (c == 34) (text_at place cs) (symbol_at place c cs (c ∷ cs)))
-          (λ d. number-told place c cs d)
-          (λ d. by_test (Tells place c cs) (c == 34) (text_at place cs) (symbol_at place c cs (c ∷ cs))
-            (λ at. text-told place c cs (eqb-true c 34 at))
-            (λ q. symbol-told place c cs (other-sort c b s u d q) d q))))
+    (λ starts. name-told place c cs starts)
+    (λ s. by_test (Tells place c cs) (c == 95) (under_at place (c ∷ cs)) (cond (is_digit c) (number_at place (c ∷ cs)) (cond (c == 34) (text_at place cs) (symbol_at place c cs (c ∷ cs))))
+    (λ at. under-told place c cs (eqb-true c 95 at))
+    (λ u. by_test (Tells place c cs) (is_digit c) (number_at place (c ∷ cs)) (cond (c == 34) (text_at place cs) (symbol_at place c cs (c ∷ cs)))
+    (λ d. number-told place c cs d)
+    (λ d. by_test (Tells place c cs) (c == 34) (text_at place cs) (symbol_at place c cs (c ∷ cs))
+    (λ at. text-told place c cs (eqb-true c 34 at))
+    (λ q. symbol-told place c cs (other-sort c b s u d q) d q))))

@@ -12,19 +12,19 @@ pub run-behind : (p : ℕ → Bool) (cs : List ℕ) → cs ≡ run p cs ++ behin
 run-behind p [] = refl
 run-behind p (c ∷ cs) =
     elim (either_way (p c)) [
-      inl holds ↦
-        let more = run-behind p cs in
-        ap (λ l. c ∷ l) more ∙ sym (ap (λ l. l ++ behind p cs) (run-yes p c cs holds)) ∙ ap (λ l. run p (c ∷ cs) ++ l) (sym (behind-yes p c cs holds))
-    | inr stops ↦
-        sym (ap (λ l. l ++ behind p (c ∷ cs)) (run-no p c cs stops) ∙ behind-no p c cs stops)
+      | inl holds ↦
+          let more = run-behind p cs in
+          ap (λ l. c ∷ l) more ∙ sym (ap (λ l. l ++ behind p cs) (run-yes p c cs holds)) ∙ ap (λ l. run p (c ∷ cs) ++ l) (sym (behind-yes p c cs holds))
+      | inr stops ↦
+          sym (ap (λ l. l ++ behind p (c ∷ cs)) (run-no p c cs stops) ∙ behind-no p c cs stops)
     ]
 
 pub behind-stops : (p : ℕ → Bool) (cs : List ℕ) → Stops p (behind p cs)
 behind-stops p [] = tt
 behind-stops p (c ∷ cs) =
     elim (either_way (p c)) [
-      inl holds ↦ subst (Stops p) (sym (behind-yes p c cs holds)) (behind-stops p cs)
-    | inr stops ↦ subst (Stops p) (sym (behind-no p c cs stops)) stops
+      | inl holds ↦ subst (Stops p) (sym (behind-yes p c cs holds)) (behind-stops p cs)
+      | inr stops ↦ subst (Stops p) (sym (behind-no p c cs stops)) stops
     ]
 
 -- a front that passes is no longer than the run

@@ -39,7 +39,7 @@ read_start text = record {
   room = length (chars text);
   enough = omega arith;
   whole = front_none (scan (length (chars text)) 0 (chars text));
-  at = omega arith
+  at = omega arith;
 }
 
 scan_empty : (room place : ℕ) → scan room place [] ≡ Ok []
@@ -91,7 +91,7 @@ read_step text ts place rest after None h u v some e =
       room = s.0;
       enough = omega (arith, s.1, h.enough);
       whole = h.whole ∙ ap (with_front ts) (s.2 ∙ ap (go_on (scan s.0) place (chars rest)) e ∙ ap (λ m. scan s.0 m (chars after)) end);
-      at = omega (arith, h.at)
+      at = omega (arith, h.at);
     }
 read_step text ts place rest after (Some kind) h u v some e =
     let s = scan_step h.room place (chars rest) (some-chars rest u some) h.enough in
@@ -102,7 +102,7 @@ read_step text ts place rest after (Some kind) h u v some e =
       room = s.0;
       enough = omega (arith, s.1, h.enough);
       whole = h.whole ∙ ap (with_front ts) (s.2 ∙ ap (go_on (scan s.0) place (chars rest)) e ∙ ap more end) ∙ front_more ts (record { kind = kind; start = place; end = place + (length rest - length after) }) (scan s.0 (place + (length rest - length after)) (chars after));
-      at = omega (arith, h.at)
+      at = omega (arith, h.at);
     }
 
 pub empty_from_length : (xs : List ℕ) → length xs ≡ 0 → xs ≡ []

@@ -61,14 +61,14 @@ sort_of-ascii c h = ap (λ b. sort_from (is_blank c) b (c == 95) (is_digit c) (c
 pub blank-each : (P : ℕ → Type 0) (c : ℕ) → is_blank c ≡ true → P 32 → P 9 → P 10 → P 13 → P c
 blank-each P c e p32 p9 p10 p13 =
     elim (either ((c == 32) || (c == 9) || (c == 10)) (c == 13) e) [
-      inl three ↦ elim (either ((c == 32) || (c == 9)) (c == 10) three) [
-          inl two ↦ elim (either (c == 32) (c == 9) two) [
-              inl at ↦ subst P (sym (eqb-true c 32 at)) p32
-            | inr at ↦ subst P (sym (eqb-true c 9 at)) p9
-            ]
-        | inr at ↦ subst P (sym (eqb-true c 10 at)) p10
+      | inl three ↦ elim (either ((c == 32) || (c == 9)) (c == 10) three) [
+        | inl two ↦ elim (either (c == 32) (c == 9) two) [
+          | inl at ↦ subst P (sym (eqb-true c 32 at)) p32
+          | inr at ↦ subst P (sym (eqb-true c 9 at)) p9
         ]
-    | inr at ↦ subst P (sym (eqb-true c 13 at)) p13
+        | inr at ↦ subst P (sym (eqb-true c 10 at)) p10
+      ]
+      | inr at ↦ subst P (sym (eqb-true c 13 at)) p13
     ]
 
 -- what begins a name is no blank
@@ -89,12 +89,12 @@ sort_of-digit c e =
     let r = digit-range c e in
     let other : is_blank c ≡ false = no-blank c (λ b. let n = blank-each (λ x. is_digit x ≡ false) c b refl refl refl refl in cc) in
     let letters : is_ascii_alphabetic c ≡ false = elim (either_way (is_ascii_alphabetic c)) [
-        inl a ↦ elim (either (nat_le 65 c && nat_le c 90) (nat_le 97 c && nat_le c 122) a) [
-            inl b ↦ absurd (omega (arith, leb-true 65 c (both (nat_le 65 c) (nat_le c 90) b).0))
-          | inr b ↦ absurd (omega (arith, leb-true 97 c (both (nat_le 97 c) (nat_le c 122) b).0))
-          ]
+      | inl a ↦ elim (either (nat_le 65 c && nat_le c 90) (nat_le 97 c && nat_le c 122) a) [
+        | inl b ↦ absurd (omega (arith, leb-true 65 c (both (nat_le 65 c) (nat_le c 90) b).0))
+        | inr b ↦ absurd (omega (arith, leb-true 97 c (both (nat_le 97 c) (nat_le c 122) b).0))
+      ]
       | inr n ↦ n
-      ] in
+    ] in
     let under : (c == 95) ≡ false = elim (either_way (c == 95)) [ inl a ↦ absurd (omega (arith, eqb-true c 95 a)) | inr n ↦ n ] in
     let small : c < 128 = omega arith in
     sort_of-ascii c small

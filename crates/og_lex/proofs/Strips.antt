@@ -16,8 +16,8 @@ strip-is [] cs rest e = cc
 strip-is (x ∷ front) [] rest e = cc
 strip-is (x ∷ front) (c ∷ cs) rest e =
     elim (chosen (x == c) (strip front cs) None (Some rest) e) [
-      inl h ↦ let at : x ≡ c = eqb-true x c h.0 in let more = strip-is front cs rest h.1 in cc
-    | inr h ↦ cc
+      | inl h ↦ let at : x ≡ c = eqb-true x c h.0 in let more = strip-is front cs rest h.1 in cc
+      | inr h ↦ cc
     ]
 
 pub strip-append : (front rest : List ℕ) → strip front (front ++ rest) ≡ Some rest

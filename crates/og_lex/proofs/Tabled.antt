@@ -57,8 +57,8 @@ among-text : (ws : List Word) (name : List ℕ) (w : Word) → word_among ws nam
 among-text [] name w e = cc
 among-text (v ∷ ws) name w e =
     elim (chosen (same (word_text v) name) (Some v) (word_among ws name) (Some w) e) [
-      inl h ↦ let at = same-true (word_text v) name h.0 in cc
-    | inr h ↦ among-text ws name w h.1
+      | inl h ↦ let at = same-true (word_text v) name h.0 in cc
+      | inr h ↦ among-text ws name w h.1
     ]
 
 pub word_of-is : (name : List ℕ) (w : Word) → word_of name ≡ Some w → name ≡ word_text w
@@ -139,8 +139,8 @@ find-named : (ms : List Mark) (text : List ℕ) (m : Mark) → find (λ k. same 
 find-named [] text m e = cc
 find-named (k ∷ ms) text m e =
     elim (chosen (same (mark_text k) text) (Some k) (find (λ x. same (mark_text x) text) ms) (Some m) e) [
-      inl h ↦ let at = same-true (mark_text k) text h.0 in cc
-    | inr h ↦ find-named ms text m h.1
+      | inl h ↦ let at = same-true (mark_text k) text h.0 in cc
+      | inr h ↦ find-named ms text m h.1
     ]
 
 pub named-is : (text : List ℕ) (m : Mark) → named text ≡ Some m → text ≡ mark_text m
@@ -209,7 +209,7 @@ found-here v ms cs rest m a more (Some r) b e =
     let behind : r ≡ rest = ap (λ p. p.1) pair in
     record {
       begins = ap (λ k. strip (mark_text k) cs) (sym at) ∙ b ∙ ap Some behind;
-      longest = λ k i after in_list s. subst (λ x. length (mark_text k) ≤ length (mark_text x)) at (no_longer v ms a k i in_list)
+      longest = λ k i after in_list s. subst (λ x. length (mark_text k) ≤ length (mark_text x)) at (no_longer v ms a k i in_list);
     }
 found-here v ms cs rest m a more None b e =
     let f = more e in

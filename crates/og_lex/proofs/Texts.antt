@@ -33,12 +33,12 @@ passed-none p text = record { front = []; whole = refl; ran = refl; left = refl 
 pub passed-more : (p : ℕ → Bool) (text rest after : List ℕ) (c : ℕ) → IsPassed p text rest → chars rest ≡ c ∷ chars after → rest ≡ encode_utf8 c ++ after → p c ≡ true → IsPassed p text after
 passed-more p text rest after c h e w y =
     let grown : encode_utf8_all (h.front ++ c ∷ []) ≡ encode_utf8_all h.front ++ encode_utf8 c =
-        encodes-append h.front (c ∷ []) ∙ ap (λ x. encode_utf8_all h.front ++ x) (append-nil (encode_utf8 c)) in
+    encodes-append h.front (c ∷ []) ∙ ap (λ x. encode_utf8_all h.front ++ x) (append-nil (encode_utf8 c)) in
     record {
       front = h.front ++ c ∷ [];
       whole = h.whole ∙ ap (λ r. encode_utf8_all h.front ++ r) w ∙ sym (append_assoc (encode_utf8_all h.front) (encode_utf8 c) after) ∙ ap (λ x. x ++ after) (sym grown);
       ran = h.ran ∙ ap (λ r. h.front ++ run p r) e ∙ ap (λ r. h.front ++ r) (run-yes p c (chars after) y) ∙ sym (append_assoc h.front (c ∷ []) (run p (chars after)));
-      left = h.left ∙ ap (behind p) e ∙ behind-yes p c (chars after) y
+      left = h.left ∙ ap (behind p) e ∙ behind-yes p c (chars after) y;
     }
 
 -- the characters are at their end, or the next one does not pass
@@ -46,7 +46,6 @@ pub passed-end : (p : ℕ → Bool) (text rest : List ℕ) → IsPassed p text r
 passed-end p text rest h none all =
     let same : run p (chars text) ≡ h.front = h.ran ∙ ap (λ r. h.front ++ r) none ∙ append-nil h.front in
     (sym (h.left ∙ all), h.whole ∙ ap (λ f. encode_utf8_all f ++ rest) (sym same))
-
 
 -- a text may be cut where a text follows
 pub seam_length : (text front rest : List ℕ) → text ≡ front ++ rest → length text - length rest ≡ length front

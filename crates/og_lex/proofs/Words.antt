@@ -24,17 +24,17 @@ same-refl (x ∷ xs) = both-yes (x == x) (same xs xs) (eq-eqb x x refl) (same-re
 same-encodes : (front cs : List ℕ) → list_all is_ascii_char front ≡ true → same front (encode_utf8_all cs) ≡ same front cs
 same-encodes front cs a =
     elim (either_way (same front cs)) [
-      inl holds ↦
-        let at : front ≡ cs = same-true front cs holds in
-        let own : encode_utf8_all cs ≡ front = ap encode_utf8_all (sym at) ∙ ascii-encodes front a in
-        ap (same front) own ∙ same-refl front ∙ sym holds
-    | inr differs ↦
-        elim (either_way (same front (encode_utf8_all cs))) [
-          inl holds ↦
-            let at : front ≡ cs = encodes_same front cs (ascii-encodes front a ∙ same-true front (encode_utf8_all cs) holds) in
-            holds ∙ sym (ap (same front) (sym at) ∙ same-refl front)
-        | inr other ↦ other ∙ sym differs
-        ]
+      | inl holds ↦
+          let at : front ≡ cs = same-true front cs holds in
+          let own : encode_utf8_all cs ≡ front = ap encode_utf8_all (sym at) ∙ ascii-encodes front a in
+          ap (same front) own ∙ same-refl front ∙ sym holds
+      | inr differs ↦
+          elim (either_way (same front (encode_utf8_all cs))) [
+            | inl holds ↦
+                let at : front ≡ cs = encodes_same front cs (ascii-encodes front a ∙ same-true front (encode_utf8_all cs) holds) in
+                holds ∙ sym (ap (same front) (sym at) ∙ same-refl front)
+            | inr other ↦ other ∙ sym differs
+          ]
     ]
 
 pub word-ascii : (w : Word) → list_all is_ascii_char (word_text w) ≡ true

@@ -98,11 +98,11 @@ symbol_at place c after cs = separated (if c == 58 then separator_end after else
 unfoldable pub token_at : ℕ → List ℕ → Result (Kind × List ℕ) LexFault
 token_at place [] = Err (faults.BadChar place)
 token_at place (c ∷ cs) =
-  if is_xid_start c then Ok (name_at (c ∷ cs))
-  else (if c == 95 then under_at place (c ∷ cs)
-  else (if is_digit c then number_at place (c ∷ cs)
-  else (if c == 34 then text_at place cs
-  else symbol_at place c cs (c ∷ cs))))
+    if is_xid_start c then Ok (name_at (c ∷ cs))
+    else (if c == 95 then under_at place (c ∷ cs)
+    else (if is_digit c then number_at place (c ∷ cs)
+    else (if c == 34 then text_at place cs
+    else symbol_at place c cs (c ∷ cs))))
 
 abbrev pub with_kind : Result (Kind × List ℕ) LexFault → Read
 with_kind (Ok (kind, rest)) = Ok (Some kind, rest)
@@ -116,8 +116,8 @@ or_comment (Some inside) other = Ok (None, behind is_in_comment inside)
 unfoldable pub piece_at : ℕ → List ℕ → Read
 piece_at place [] = Err (faults.BadChar place)
 piece_at place (c ∷ cs) =
-  if is_blank c then Ok (None, cs)
-  else or_comment (strip (codes "//") (c ∷ cs)) (with_kind (token_at place (c ∷ cs)))
+    if is_blank c then Ok (None, cs)
+    else or_comment (strip (codes "//") (c ∷ cs)) (with_kind (token_at place (c ∷ cs)))
 
 -- the tokens, and after them that of the kind, if there is one
 abbrev pub with_token_of : List Token → Option Kind → ℕ → ℕ → List Token
@@ -133,8 +133,8 @@ abbrev pub go_on : (ℕ → List ℕ → Result (List Token) LexFault) → ℕ �
 go_on next place cs (Err fault) = Err fault
 go_on next place cs (Ok (None, rest)) = next (place + (byte_len cs - byte_len rest)) rest
 go_on next place cs (Ok (Some kind, rest)) =
-  let end = place + (byte_len cs - byte_len rest)
-  in with_token (record { kind = kind; start = place; end = end }) (next end rest)
+    let end = place + (byte_len cs - byte_len rest)
+    in with_token (record { kind = kind; start = place; end = end }) (next end rest)
 
 -- The tokens from a place on. The first number is at least how many pieces there are.
 unfoldable pub scan : ℕ → ℕ → List ℕ → Result (List Token) LexFault

@@ -13,12 +13,10 @@ ghost use Rattle.og_lex.specs.Reading.{tokens};
 pub fn one_lexing()
     ensures { (text : List ℕ) (one other : Result (List Token) LexFault) → Lexed text one
         → Lexed text other → one ≢ Err Memory → other ≢ Err Memory → one ≡ other }
-{
-}
+{}
 
 /// A text has a row of tokens or a first fault: those that `tokens` computes.
 pub fn some_lexing()
     ensures lexed { (text : List ℕ) → Lexed text (tokens text) }
     ensures read { (text : List ℕ) → tokens text ≢ Err Memory }
-{
-}
+{}

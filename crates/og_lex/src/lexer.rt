@@ -3,12 +3,11 @@ ghost use Rattle.std.specs.List.{AllByRecursion};
 ghost use Rattle.og_lex.specs.Spelling.{AreInOrder, IsTokenOf, Lexed};
 ghost use Rattle.og_lex.specs.Reading.{tokens, with_token_of};
 
-use og_list::List;
-use std::alloc::Global;
-
 use crate::fault::LexFault;
 use crate::reader;
 use crate::token::{Kind, Token};
+use og_list::List;
+use std::alloc::Global;
 
 /// The length in bytes that a text has at most.
 pub const MAX_TEXT: usize = 1_048_576;

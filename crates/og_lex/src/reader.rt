@@ -12,10 +12,74 @@ use crate::token::{Kind, Mark, Word};
 const NUMBER_LIMIT: u64 = 0x8000_0000_0000_0000;
 
 /// Every reserved word.
-const WORDS: [Word; 37] = [Word::Type, Word::Fn, Word::Game, Word::Block, Word::Inputs, Word::Feedback, Word::Operation, Word::Outputs, Word::Returns, Word::DependentDecision, Word::Nature, Word::ForwardFunction, Word::BackwardFunction, Word::Identity, Word::Library, Word::If, Word::Then, Word::Elif, Word::Else, Word::End, Word::Table, Word::And, Word::Or, Word::Not, Word::True, Word::False, Word::Bool, Word::Number, Word::Agent, Word::Ratio, Word::Min, Word::Max, Word::Clamp, Word::Strategy, Word::Among, Word::Branch, Word::Version];
+const WORDS: [Word; 37] = [
+    Word::Type,
+    Word::Fn,
+    Word::Game,
+    Word::Block,
+    Word::Inputs,
+    Word::Feedback,
+    Word::Operation,
+    Word::Outputs,
+    Word::Returns,
+    Word::DependentDecision,
+    Word::Nature,
+    Word::ForwardFunction,
+    Word::BackwardFunction,
+    Word::Identity,
+    Word::Library,
+    Word::If,
+    Word::Then,
+    Word::Elif,
+    Word::Else,
+    Word::End,
+    Word::Table,
+    Word::And,
+    Word::Or,
+    Word::Not,
+    Word::True,
+    Word::False,
+    Word::Bool,
+    Word::Number,
+    Word::Agent,
+    Word::Ratio,
+    Word::Min,
+    Word::Max,
+    Word::Clamp,
+    Word::Strategy,
+    Word::Among,
+    Word::Branch,
+    Word::Version,
+];
 
 /// Every mark, the longest first.
-const MARKS: [Mark; 25] = [Mark::Then, Mark::Beside, Mark::DotDot, Mark::Arrow, Mark::Equal, Mark::Differs, Mark::AtMost, Mark::AtLeast, Mark::LeftBrace, Mark::RightBrace, Mark::LeftParen, Mark::RightParen, Mark::LeftBracket, Mark::RightBracket, Mark::Comma, Mark::Semicolon, Mark::Colon, Mark::Dot, Mark::Assign, Mark::Less, Mark::Greater, Mark::Plus, Mark::Minus, Mark::Star, Mark::Slash];
+const MARKS: [Mark; 25] = [
+    Mark::Then,
+    Mark::Beside,
+    Mark::DotDot,
+    Mark::Arrow,
+    Mark::Equal,
+    Mark::Differs,
+    Mark::AtMost,
+    Mark::AtLeast,
+    Mark::LeftBrace,
+    Mark::RightBrace,
+    Mark::LeftParen,
+    Mark::RightParen,
+    Mark::LeftBracket,
+    Mark::RightBracket,
+    Mark::Comma,
+    Mark::Semicolon,
+    Mark::Colon,
+    Mark::Dot,
+    Mark::Assign,
+    Mark::Less,
+    Mark::Greater,
+    Mark::Plus,
+    Mark::Minus,
+    Mark::Star,
+    Mark::Slash,
+];
 
 /// The first of the words that is written so.
 fn word_among(words: &[Word], name: &str) -> Option<Word>
@@ -137,13 +201,20 @@ fn separator_end(after: &str) -> Option<&str>
 /// The separator or the mark with which the text begins, and the text behind it. The text is the
 /// character and then `after`.
 #[tactic(auto, unfolding(crate::specs::Reading::symbol_at))]
-fn symbol_at<'a>(text: &'a str, c: char, after: &'a str, place: u32) -> Result<(Kind, &'a str), LexFault>
+fn symbol_at<'a>(
+    text: &'a str,
+    c: char,
+    after: &'a str,
+    place: u32,
+) -> Result<(Kind, &'a str), LexFault>
     ensures cases { MatchResult result
         (λ x. symbol_at place c (chars after.now) (chars text.now) ≡ Ok (x.0, chars x.1.now))
         (λ fault. symbol_at place c (chars after.now) (chars text.now) ≡ Err fault) }
     ensures utf8 { IfOk result (λ x. IsUtf8 x.1.now) }
 {
-    if c == ':' && let Some(rest) = separator_end(after) {
+    if c == ':'
+        && let Some(rest) = separator_end(after)
+    {
         return Ok((Kind::Separator, rest));
     }
     match mark_at(text) {

@@ -27,10 +27,10 @@ pub returns-in_default-clause-cases : goal.returns-in_default-clause-cases
 unfolding number_at has
 returns-in_default-clause-cases c =
     let read : number_of (run is_digit (chars c.args.text.now)) ≡ below c.parse.result =
-      number_parsed (chars c.args.text.now) c.parse.result (subst (λ (bytes : List ℕ). ParsesUnsigned 64 10 bytes c.parse.result) c.cut.ensures.front c.parse.ensures.value.0) in
+    number_parsed (chars c.args.text.now) c.parse.result (subst (λ (bytes : List ℕ). ParsesUnsigned 64 10 bytes c.parse.result) c.cut.ensures.front c.parse.ensures.value.0) in
     elim c.in_default.branch [
-      in_default-via-in-Ok+else-value-lt-NUMBER_LIMIT w ↦
-        ap (λ o. numbered c.args.place o (behind is_digit (chars c.args.text.now))) (read ∙ ap below w.in-Ok.is ∙ cond-false _ (Some w.in-Ok.value) None (le-ltb w.in-Ok.value (2 ^ 63) w.if-value-lt-NUMBER_LIMIT.false))
-    | in_default-via-in_default w ↦
-        ap (λ o. numbered c.args.place o (behind is_digit (chars c.args.text.now))) (read ∙ ap below w.in_default.is)
+      | in_default-via-in-Ok+else-value-lt-NUMBER_LIMIT w ↦
+          ap (λ o. numbered c.args.place o (behind is_digit (chars c.args.text.now))) (read ∙ ap below w.in-Ok.is ∙ cond-false _ (Some w.in-Ok.value) None (le-ltb w.in-Ok.value (2 ^ 63) w.if-value-lt-NUMBER_LIMIT.false))
+      | in_default-via-in_default w ↦
+          ap (λ o. numbered c.args.place o (behind is_digit (chars c.args.text.now))) (read ∙ ap below w.in_default.is)
     ]
