@@ -1,7 +1,7 @@
 -- The reading of a text gives its tokens or its first fault.
 use Rattle.std.proofs.Common.{◌≡◌, ◌≢◌, ◌⊎◌, inl, inr, ℕ, zero, suc, ◌+◌, ◌-◌, ◌<◌, ◌≤◌, Bool, true, false, cond, List, [], ◌∷◌, ◌++◌, length, refl, sym, ap, ◌∙◌, subst, arith, append_assoc, length-append}
-use Rattle.std.specs.Prelude.{Option, Some, None, Result, Ok, Err, MatchResult, ◌==◌, encode_utf8_all}
-use Rattle.std.specs.Str.{chars, IsUtf8}
+use Rattle.std.specs.Prelude.{Option, Some, None, Result, Ok, Err, MatchResult, ◌==◌}
+use Rattle.std.specs.Str.{chars}
 use Rattle.std.proofs.lemmas.List.{append-nil}
 use Rattle.og_lex.specs.declared.token.Kind.{Kind}
 use Rattle.og_lex.specs.declared.token.Token.{Token}
@@ -9,9 +9,9 @@ use Rattle.og_lex.specs.declared.fault.LexFault.{LexFault}
 use Rattle.og_lex.specs.declared.fault.LexFault.TheVariants as faults
 use Rattle.og_lex.specs.Characters.{is_digit, byte_len}
 use Rattle.og_lex.specs.Reading.{Read, piece_at, with_token, go_on, scan, tokens}
-use Rattle.og_lex.specs.Spelling.{Stands, Piece, written, AllStand, with_piece, tokens_of, AreTokens, NothingStands, fault_of, FaultAt, IsFirstFault, Lexed, AreInOrder}
-use Rattle.og_lex.proofs.Lengths.{byte_len-append, byte_len-chars, length-le-byte_len}
-use Rattle.og_lex.proofs.Pieces.{IsFound, Shows, piece-shown}
+use Rattle.og_lex.specs.Spelling.{Stands, Piece, written, AllStand, with_piece, tokens_of, FaultAt, IsFirstFault, Lexed}
+use Rattle.og_lex.proofs.Lengths.{byte_len-append}
+use Rattle.og_lex.proofs.Pieces.{Shows, piece-shown}
 
 pub record HasTokens (place : ℕ) (cs : List ℕ) (ts : List Token) : Type 0 where
   pub pieces : List Piece

@@ -1,17 +1,17 @@
 -- What is read at a place stands there, and where nothing is read nothing stands.
-use Rattle.std.proofs.Common.{◌≡◌, ◌≢◌, ◌⊎◌, inl, inr, ℕ, ◌+◌, ◌<◌, ◌≤◌, Bool, true, false, cond, List, [], ◌∷◌, ◌++◌, length, refl, sym, ap, ◌∙◌, subst, arith, append_assoc}
+use Rattle.std.proofs.Common.{◌≡◌, ◌≢◌, inl, inr, ℕ, true, false, List, [], ◌∷◌, ◌++◌, refl, sym, ap, ◌∙◌, subst}
 use Rattle.std.specs.Prelude.{Option, Some, None, Result, Ok, Err, codes}
 use Rattle.og_lex.specs.declared.token.Kind.{Kind}
 use Rattle.og_lex.specs.declared.fault.LexFault.{LexFault}
 use Rattle.og_lex.specs.Characters.{is_blank, is_in_comment, run, behind}
 use Rattle.og_lex.specs.Reading.{Read, strip, token_at, with_kind, or_comment, piece_at}
-use Rattle.og_lex.specs.Spelling.{Stands, NothingStands, FaultAt, fault_of, Begins, IsTokenAt}
+use Rattle.og_lex.specs.Spelling.{Stands, NothingStands, FaultAt, Begins}
 use Rattle.og_lex.proofs.Tools.{by_test}
 use Rattle.og_lex.proofs.Runs.{run-behind, behind-stops}
 use Rattle.og_lex.proofs.Numbers.{run-all}
 use Rattle.og_lex.proofs.Strips.{strip-is, strip-append}
 use Rattle.og_lex.proofs.Sorts.{spelled-some}
-use Rattle.og_lex.proofs.Readings.{IsTaken, Tells, token-told}
+use Rattle.og_lex.proofs.Readings.{Tells, token-told}
 
 -- Something stands at the front of the characters, and rest follows it.
 pub record IsFound (what : Option Kind) (cs rest : List ℕ) : Type 0 where

@@ -1,8 +1,8 @@
 -- Where the tokens of a text stand in it.
-use Rattle.std.proofs.Common.{◌≡◌, ◌≢◌, ℕ, ◌+◌, ◌-◌, ◌<◌, ◌≤◌, Bool, true, List, [], ◌∷◌, ◌++◌, length, take, drop, refl, sym, ap, ◌∙◌, subst, arith, append_assoc, length-append}
-use Rattle.std.specs.Prelude.{Option, Some, None, Result, Ok, Err, IfOk, encode_utf8_all, slice_range, ◌&&◌}
+use Rattle.std.proofs.Common.{◌≡◌, ℕ, ◌+◌, ◌-◌, ◌<◌, ◌≤◌, true, List, [], ◌∷◌, ◌++◌, length, take, drop, refl, sym, ap, ◌∙◌, subst, arith, append_assoc, length-append}
+use Rattle.std.specs.Prelude.{Option, Some, None, Result, Ok, Err, IfOk, encode_utf8_all, ◌&&◌}
 use Rattle.std.specs.List.{AllByRecursion}
-use Rattle.std.specs.Str.{chars, IsUtf8, IsCharBoundary}
+use Rattle.std.specs.Str.{IsUtf8, IsCharBoundary}
 use Rattle.std.proofs.Math.Seq.{take-append_seam, drop-append_seam}
 use Rattle.std.proofs.lemmas.Str.{encodes-chars, scalars-chars, encodes-append, IsCharBoundary-at_seam}
 use lib.Utf8.{scalar, scalars}
@@ -10,7 +10,7 @@ use Rattle.og_lex.specs.declared.token.Kind.{Kind}
 use Rattle.og_lex.specs.declared.token.Token.{Token}
 use Rattle.og_lex.specs.declared.fault.LexFault.{LexFault}
 use Rattle.og_lex.specs.Characters.{byte_len}
-use Rattle.og_lex.specs.Spelling.{Spells, Stands, Piece, written, AllStand, with_piece, tokens_of, AreTokens, Lexed, AreInOrder, IsTokenOf}
+use Rattle.og_lex.specs.Spelling.{Spells, Stands, Piece, written, AllStand, with_piece, tokens_of, Lexed, AreInOrder, IsTokenOf}
 use Rattle.og_lex.proofs.Tools.{both}
 use Rattle.og_lex.proofs.Lengths.{byte_len-append, byte_len-chars, length-le-byte_len}
 use Rattle.og_lex.proofs.Single.{stands-some}

@@ -1,9 +1,9 @@
 -- What is read of a token at a place, against the tokens that may stand there.
-use Rattle.std.proofs.Common.{◌≡◌, ◌≢◌, ◌⊎◌, inl, inr, ℕ, ◌+◌, ◌^◌, ◌<◌, ◌≤◌, Bool, true, false, cond, List, [], ◌∷◌, ◌++◌, length, refl, sym, ap, ◌∙◌, subst, arith, lit<, append_assoc, length-append}
-use Rattle.std.specs.Prelude.{Option, Some, None, Result, Ok, Err, ◌==◌, ◌&&◌, nat_lt}
+use Rattle.std.proofs.Common.{◌≡◌, ◌≢◌, ◌⊎◌, inl, inr, ℕ, ◌^◌, ◌<◌, ◌≤◌, Bool, true, false, cond, List, [], ◌∷◌, ◌++◌, length, refl, sym, ap, ◌∙◌, subst, arith, lit<, append_assoc, length-append}
+use Rattle.std.specs.Prelude.{Option, Some, None, Result, Ok, Err, ◌==◌, nat_lt}
 use Rattle.std.specs.List.{list_all}
 use Rattle.std.specs.Str.Parse.{digits_value}
-use Rattle.std.proofs.lemmas.Bool.{eqb-true, eq-eqb, ltb-true, ltb-false, lt-ltb, le-ltb, cond-true, cond-false}
+use Rattle.std.proofs.lemmas.Bool.{eqb-true, eq-eqb, ltb-true, ltb-false, le-ltb, cond-true, cond-false}
 use Rattle.unicode_ident.specs.Ident.{is_xid_start, is_xid_continue}
 use Rattle.unicode_ident.proofs.IdentLemmas.{is_xid_continue-ascii, is_xid_start-is_xid_continue}
 use Rattle.og_lex.specs.declared.token.Kind.{Kind}
@@ -13,16 +13,16 @@ use Rattle.og_lex.specs.declared.token.Mark.{Mark}
 use Rattle.og_lex.specs.declared.fault.LexFault.{LexFault}
 use Rattle.og_lex.specs.declared.fault.LexFault.TheVariants as faults
 use Rattle.og_lex.specs.Characters.{is_blank, is_digit, is_hyphen, is_in_text, is_ascii_char, run, behind, byte_len}
-use Rattle.og_lex.specs.Tables.{word_text, mark_text}
+use Rattle.og_lex.specs.Tables.{mark_text}
 use Rattle.og_lex.specs.Reading.{strip, kind_of, word_of, name_at, under_at, number_of, numbered, number_at, closed, text_at, separator_end, mark_at, marked, separated, symbol_at, token_at}
-use Rattle.og_lex.specs.Spelling.{Spells, is_name, Stops, MayEnd, Begins, IsTokenAt, fault_of}
-use Rattle.og_lex.proofs.Tools.{either_way, both, both-yes, some-same, by_test}
-use Rattle.og_lex.proofs.Texts.{run-yes, behind-yes}
+use Rattle.og_lex.specs.Spelling.{Spells, is_name, Begins, IsTokenAt, fault_of}
+use Rattle.og_lex.proofs.Tools.{both, both-yes, some-same, by_test}
+use Rattle.og_lex.proofs.Texts.{run-yes}
 use Rattle.og_lex.proofs.Runs.{run-behind, behind-stops, front-le-run, run-exact, behind-exact}
 use Rattle.og_lex.proofs.Numbers.{run-all}
 use Rattle.og_lex.proofs.Strips.{strip-is, strip-append, ascii-encodes}
 use Rattle.og_lex.proofs.Lengths.{length-le-byte_len}
-use Rattle.og_lex.proofs.Sorts.{Sort, letter, line, digit, quote, symbol, sort_from, kind_sort, sort_of, sort_of-ascii, sort_of-starts, sort_of-digit, spelled-sort, spelled-some, word-is_name}
+use Rattle.og_lex.proofs.Sorts.{letter, line, digit, quote, symbol, sort_from, kind_sort, sort_of, sort_of-ascii, sort_of-starts, sort_of-digit, spelled-sort, spelled-some, word-is_name}
 use Rattle.og_lex.proofs.Tabled.{word_of-text, word_of-is, mark-short, mark_at-found, mark_at-none}
 
 -- a token of the kind is taken at the front of the characters, and rest follows it

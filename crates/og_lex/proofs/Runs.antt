@@ -1,10 +1,9 @@
 -- Runs of characters that pass a test.
-use Rattle.std.proofs.Common.{◌≡◌, ◌≢◌, ◌⊎◌, inl, inr, ℕ, ◌+◌, ◌<◌, ◌≤◌, Bool, true, false, cond, List, [], ◌∷◌, ◌++◌, length, refl, sym, ap, ◌∙◌, subst, arith}
-use Rattle.std.specs.Prelude.{◌&&◌}
+use Rattle.std.proofs.Common.{◌≡◌, inl, inr, ℕ, ◌≤◌, Bool, true, List, [], ◌∷◌, ◌++◌, length, refl, sym, ap, ◌∙◌, subst, arith}
 use Rattle.std.specs.List.{list_all}
 use Rattle.og_lex.specs.Characters.{run, behind}
 use Rattle.og_lex.specs.Spelling.{Stops}
-use Rattle.og_lex.proofs.Tools.{either_way, both, both-yes}
+use Rattle.og_lex.proofs.Tools.{either_way, both}
 use Rattle.og_lex.proofs.Texts.{run-yes, run-no, behind-yes, behind-no}
 
 -- a list is its longest front that passes, and the rest

@@ -1,17 +1,16 @@
 -- A loop over the pieces of a text, against the reading of its characters.
-use Rattle.std.proofs.Common.{◌≡◌, ◌≢◌, ◌⊎◌, inl, inr, ℕ, zero, suc, ◌+◌, ◌-◌, ◌<◌, ◌≤◌, List, [], ◌∷◌, ◌++◌, length, refl, sym, ap, ◌∙◌, subst, arith, append_assoc, length-append}
+use Rattle.std.proofs.Common.{◌≡◌, ◌≢◌, ℕ, zero, suc, ◌+◌, ◌-◌, ◌<◌, ◌≤◌, List, [], ◌∷◌, ◌++◌, length, refl, sym, ap, ◌∙◌, arith, append_assoc, length-append}
 use Rattle.std.specs.Prelude.{Option, Some, None, Result, Ok, Err, encode_utf8_all}
 use Rattle.std.specs.Str.{chars, IsUtf8}
 use Rattle.std.proofs.lemmas.List.{append-nil}
-use Rattle.std.proofs.lemmas.Str.{chars-nil, encodes-chars, encodes-append, length-le-encodes}
+use Rattle.std.proofs.lemmas.Str.{chars-nil, encodes-chars}
 use Rattle.og_lex.specs.declared.token.Kind.{Kind}
 use Rattle.og_lex.specs.declared.token.Token.{Token}
 use Rattle.og_lex.specs.declared.fault.LexFault.{LexFault}
 use Rattle.og_lex.specs.Characters.{byte_len}
-use Rattle.og_lex.specs.Spelling.{with_piece}
-use Rattle.og_lex.specs.Reading.{Read, piece_at, with_token, go_on, scan, tokens, with_token_of}
+use Rattle.og_lex.specs.Reading.{piece_at, with_token, go_on, scan, tokens, with_token_of}
 use Rattle.og_lex.proofs.Lengths.{byte_len-chars, byte_len-append, length-le-byte_len}
-use Rattle.og_lex.proofs.Pieces.{IsFound, piece-found}
+use Rattle.og_lex.proofs.Pieces.{piece-found}
 
 -- what was read before, and what is read after it
 abbrev pub with_front : List Token → Result (List Token) LexFault → Result (List Token) LexFault

@@ -1,9 +1,8 @@
 -- At most one row of pieces makes a text, so at most one outcome is right.
-use Rattle.std.proofs.Common.{◌≡◌, ◌≢◌, ◌⊎◌, inl, inr, ℕ, zero, suc, ◌+◌, ◌<◌, ◌≤◌, Bool, true, false, cond, List, [], ◌∷◌, ◌++◌, length, refl, sym, ap, ◌∙◌, subst, arith, append_assoc, length-append}
+use Rattle.std.proofs.Common.{◌≡◌, ◌≢◌, inl, inr, ℕ, ◌≤◌, List, [], ◌∷◌, ◌++◌, length, refl, sym, ap, ◌∙◌, subst, arith, append_assoc, length-append}
 use Rattle.std.specs.Prelude.{Option, Some, None, Result, Ok, Err, codes}
 use Rattle.std.specs.Str.{chars}
 use Rattle.std.specs.Str.Parse.{digits_value}
-use Rattle.std.specs.List.{list_all}
 use Rattle.std.proofs.lemmas.List.{append-nil}
 use Rattle.og_lex.specs.declared.token.Kind.{Kind}
 use Rattle.og_lex.specs.declared.token.Kind.TheVariants as kinds
@@ -13,11 +12,11 @@ use Rattle.og_lex.specs.declared.token.Token.{Token}
 use Rattle.og_lex.specs.declared.fault.LexFault.{LexFault}
 use Rattle.og_lex.specs.declared.fault.LexFault.TheVariants as faults
 use Rattle.og_lex.specs.Characters.{is_blank, is_in_comment, run, byte_len}
-use Rattle.og_lex.specs.Tables.{word_text, mark_text}
+use Rattle.og_lex.specs.Tables.{word_text}
 use Rattle.og_lex.specs.Reading.{kind_of, word_of}
-use Rattle.og_lex.specs.Spelling.{Spells, IsTokenAt, IsBlank, IsComment, Stands, Piece, written, AllStand, tokens_of, AreTokens, NothingStands, fault_of, FaultAt, IsFirstFault, Lexed}
+use Rattle.og_lex.specs.Spelling.{Spells, IsTokenAt, IsBlank, IsComment, Stands, Piece, written, AllStand, tokens_of, NothingStands, fault_of, FaultAt, Lexed}
 use Rattle.og_lex.proofs.Runs.{run-exact}
-use Rattle.og_lex.proofs.Sorts.{Sort, space, letter, line, digit, quote, symbol, kind_sort, sort_of, sort_of-blank, spelled-sort, spelled-some}
+use Rattle.og_lex.proofs.Sorts.{Sort, space, letter, line, digit, quote, symbol, kind_sort, sort_of-blank, spelled-sort, spelled-some}
 use Rattle.og_lex.proofs.Readings.{begins-sort}
 use Rattle.og_lex.proofs.Tabled.{word_of-text, word_of-is, mark-short, named, named-text, named-is}
 

@@ -1,11 +1,11 @@
 -- The first character of a token tells of which sort it is.
-use Rattle.std.proofs.Common.{◌≡◌, ◌≢◌, ◌⊎◌, inl, inr, ℕ, ◌+◌, ◌<◌, ◌≤◌, Bool, true, false, cond, List, [], ◌∷◌, ◌++◌, length, refl, sym, ap, ◌∙◌, subst, arith, lit<}
-use Rattle.std.specs.Prelude.{◌==◌, ◌&&◌, ◌||◌, not, nat_lt, nat_le}
+use Rattle.std.proofs.Common.{◌≡◌, ◌≢◌, inl, inr, ℕ, ◌<◌, Bool, true, false, List, [], ◌∷◌, ◌++◌, refl, sym, ap, ◌∙◌, subst, arith, lit<}
+use Rattle.std.specs.Prelude.{◌==◌, ◌&&◌, ◌||◌, nat_le}
 use Rattle.std.specs.List.{list_all}
 use Rattle.std.specs.Char.{is_ascii_alphabetic}
-use Rattle.std.proofs.lemmas.Bool.{ltb-true, leb-true, eqb-true, eq-eqb}
+use Rattle.std.proofs.lemmas.Bool.{ltb-true, leb-true, eqb-true}
 use Rattle.unicode_ident.specs.Ident.{is_xid_start, is_xid_continue}
-use Rattle.unicode_ident.proofs.IdentLemmas.{is_xid_start-ascii, is_xid_continue-ascii, is_xid_start-is_xid_continue}
+use Rattle.unicode_ident.proofs.IdentLemmas.{is_xid_start-ascii, is_xid_start-is_xid_continue}
 use Rattle.og_lex.specs.declared.token.Kind.{Kind}
 use Rattle.og_lex.specs.declared.token.Kind.TheVariants as kinds
 use Rattle.og_lex.specs.declared.token.Word.{Word}
@@ -15,7 +15,7 @@ use Rattle.og_lex.specs.declared.token.Mark.TheVariants as marks
 use Rattle.og_lex.specs.Characters.{is_blank, is_digit, is_ascii_char}
 use Rattle.og_lex.specs.Tables.{word_text, mark_text}
 use Rattle.og_lex.specs.Spelling.{Spells, is_name}
-use Rattle.og_lex.proofs.Tools.{chosen, either_way, either, both, both-yes}
+use Rattle.og_lex.proofs.Tools.{either_way, either, both, both-yes}
 use Rattle.og_lex.proofs.Numbers.{digit-range}
 
 pub data Sort : Type 0 where

@@ -1,14 +1,14 @@
 -- What follows a front, in a list of characters and in the bytes that they take.
-use Rattle.std.proofs.Common.{◌≡◌, ◌≢◌, ◌⊎◌, inl, inr, ℕ, ◌+◌, ◌<◌, ◌≤◌, Bool, true, false, cond, List, [], ◌∷◌, ◌++◌, length, take, drop, refl, sym, ap, ◌∙◌, subst, arith}
-use Rattle.std.specs.Prelude.{encode_utf8, encode_utf8_all, Option, Some, None, MatchOption, ◌&&◌, nat_lt, ◌==◌}
+use Rattle.std.proofs.Common.{◌≡◌, ◌≢◌, inl, inr, ℕ, true, cond, List, [], ◌∷◌, ◌++◌, refl, sym, ap, ◌∙◌, subst}
+use Rattle.std.specs.Prelude.{encode_utf8_all, Option, Some, None, MatchOption, ◌==◌}
 use Rattle.std.specs.List.{list_all}
 use Rattle.std.specs.Str.{chars, IsUtf8, IsCharBoundary}
 use Rattle.std.specs.Str.Pattern.{FindsTextPrefix, StripsPrefix}
 use Rattle.std.proofs.lemmas.Bool.{eqb-true, eq-eqb, ltb-true}
-use Rattle.std.proofs.lemmas.Str.{encodes-append, encodes-chars, scalars-chars, chars-encodes, cons_from_encodes, encode_ascii, chars_from_encodes, IsUtf8-drop}
+use Rattle.std.proofs.lemmas.Str.{encodes-append, encodes-chars, cons_from_encodes, encode_ascii, chars_from_encodes, IsUtf8-drop}
 use Rattle.og_lex.specs.Characters.{is_ascii_char}
 use Rattle.og_lex.specs.Reading.{strip}
-use Rattle.og_lex.proofs.Tools.{chosen, both, both-yes}
+use Rattle.og_lex.proofs.Tools.{chosen, both}
 use denote.Ref.{Bor}
 
 pub strip-is : (front cs rest : List ℕ) → strip front cs ≡ Some rest → cs ≡ front ++ rest

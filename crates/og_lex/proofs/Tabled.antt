@@ -1,5 +1,5 @@
 -- The tables have every word and every mark, each under its own text.
-use Rattle.std.proofs.Common.{◌≡◌, ◌≢◌, ◌⊎◌, inl, inr, ℕ, zero, suc, ◌<◌, ◌≤◌, Bool, true, false, cond, List, [], ◌∷◌, ◌++◌, length, refl, sym, ap, ◌∙◌, subst, arith}
+use Rattle.std.proofs.Common.{◌≡◌, inl, inr, ℕ, zero, suc, ◌≤◌, Bool, true, List, [], ◌∷◌, length, refl, sym, ap, ◌∙◌, subst, arith}
 use Rattle.std.specs.Prelude.{Option, Some, None, ◌&&◌, nat_le, slice_get}
 use Rattle.std.specs.List.{list_all, find}
 use Rattle.std.proofs.lemmas.Bool.{leb-true}
@@ -9,8 +9,8 @@ use Rattle.og_lex.specs.declared.token.Mark.{Mark}
 use Rattle.og_lex.specs.declared.token.Mark.TheVariants as marks
 use Rattle.og_lex.specs.Tables.{word_text, mark_text, all_words, all_marks}
 use Rattle.og_lex.specs.Reading.{same, strip, word_among, word_of, or_mark, mark_among, mark_at}
-use Rattle.og_lex.proofs.Tools.{chosen, either_way, both, both-yes, some-same}
-use Rattle.og_lex.proofs.Words.{same-true, same-refl}
+use Rattle.og_lex.proofs.Tools.{chosen, both, some-same}
+use Rattle.og_lex.proofs.Words.{same-true}
 
 -- each word is found under its text
 pub word_of-text : (w : Word) → word_of (word_text w) ≡ Some w

@@ -1,12 +1,10 @@
 -- How the characters of a text follow its cuts.
-use Rattle.std.proofs.Common.{◌≡◌, ℕ, ◌+◌, ◌-◌, ◌<◌, ◌≤◌, Bool, true, false, cond, List, [], ◌∷◌, ◌++◌, length, take, drop, refl, sym, ap, ◌∙◌, subst, append_assoc, arith, length-append}
-use Rattle.std.specs.Prelude.{encode_utf8, encode_utf8_all, Option, Some, None, MatchOption, IsTrue, ◌&&◌, nat_lt, ◌==◌}
-use Rattle.std.specs.List.{list_all}
-use Rattle.std.specs.Str.{chars, IsUtf8, IsCharBoundary, all_scalars}
-use Rattle.std.proofs.lemmas.Str.{encodes-append, encodes-chars, scalars-chars, chars-encodes, IsCharBoundary-at_seam, cons_from_encodes, encode_ascii, chars_from_encodes}
+use Rattle.std.proofs.Common.{◌≡◌, ℕ, ◌-◌, Bool, true, false, cond, List, [], ◌∷◌, ◌++◌, length, refl, sym, ap, ◌∙◌, subst, append_assoc, arith, length-append}
+use Rattle.std.specs.Prelude.{encode_utf8, encode_utf8_all}
+use Rattle.std.specs.Str.{chars, IsUtf8, IsCharBoundary}
+use Rattle.std.proofs.lemmas.Str.{encodes-append, IsCharBoundary-at_seam}
 use Rattle.std.proofs.lemmas.List.{append-nil}
-use Rattle.og_lex.specs.Characters.{run, behind, is_ascii_char}
-use Rattle.og_lex.specs.Reading.{strip}
+use Rattle.og_lex.specs.Characters.{run, behind}
 
 pub run-yes : (p : ℕ → Bool) (c : ℕ) (cs : List ℕ) → p c ≡ true → run p (c ∷ cs) ≡ c ∷ run p cs
 run-yes p c cs y = ap (λ b. cond b (c ∷ run p cs) []) y

@@ -1,11 +1,10 @@
 -- The reserved words are ASCII, so their bytes are their characters.
-use Rattle.std.proofs.Common.{◌≡◌, ◌⊎◌, inl, inr, ℕ, Bool, true, false, cond, List, [], ◌∷◌, ◌++◌, refl, sym, ap, ◌∙◌}
-use Rattle.std.specs.Prelude.{encode_utf8_all, Option, Some, None, ◌==◌, nat_eq}
+use Rattle.std.proofs.Common.{◌≡◌, inl, inr, ℕ, true, cond, List, [], ◌∷◌, refl, sym, ap, ◌∙◌}
+use Rattle.std.specs.Prelude.{encode_utf8_all, Some, ◌==◌}
 use Rattle.std.specs.List.{list_all}
 use Rattle.std.specs.Cmp.Lexicographic.{same_text}
 use Rattle.std.proofs.lemmas.Bool.{eq-eqb}
 use Rattle.std.proofs.lemmas.Str.{encodes_same}
-use lib.Pointwise.{pointwise}
 use Rattle.og_lex.specs.declared.token.Word.{Word}
 use Rattle.og_lex.specs.declared.token.Word.TheVariants as words
 use Rattle.og_lex.specs.Characters.{is_ascii_char}

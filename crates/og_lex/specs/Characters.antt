@@ -1,5 +1,5 @@
 -- The characters that matter to the tokens, and the runs that they make.
-use Rattle.std.specs.Prelude.{ℕ, Bool, ◌==◌, ◌||◌, ◌&&◌, not, nat_le, nat_lt, cond, List, [], ◌∷◌, ◌++◌, length, encode_utf8_all}
+use Rattle.std.specs.Prelude.{ℕ, Bool, ◌==◌, ◌||◌, ◌&&◌, not, nat_le, nat_lt, cond, List, [], ◌∷◌, length, encode_utf8_all}
 use Rattle.unicode_ident.specs.Ident.{is_xid_continue}
 use Rattle.og_lex.specs.declared.class.Class.{Class}
 use Rattle.og_lex.specs.declared.class.Class.TheVariants as classes

@@ -1,4 +1,3 @@
-use Rattle.og_lex.specs.Spelling.{Lexed}
 use Rattle.og_lex.proofs.Outcomes.{exact_from, lexed_exact}
 use Rattle.og_lex.proofs.Placed.{order-from, each-from}
 use Rattle.og_lex.proofs.lexer.lex.Goals as goal

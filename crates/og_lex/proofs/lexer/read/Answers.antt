@@ -1,10 +1,10 @@
-use Rattle.std.proofs.Common.{◌≡◌, ◌≢◌, ◌<◌, ◌-◌, ◌+◌, ℕ, List, [], length, rules, arith, sym, ap, ◌∙◌, subst}
-use Rattle.std.specs.Prelude.{Some, None, Ok, Err, Result}
+use Rattle.std.proofs.Common.{◌≡◌, ◌<◌, ◌-◌, ◌+◌, List, length, rules, arith, sym, subst}
+use Rattle.std.specs.Prelude.{Ok}
 use Rattle.std.specs.Str.{chars, IsUtf8}
 use Rattle.std.proofs.lemmas.Bool.Decides.{nat_tests}
 use Rattle.std.proofs.lemmas.Result.{err_from_is_err_and}
 use Rattle.og_lex.specs.declared.token.Token.{Token}
-use Rattle.og_lex.specs.Reading.{piece_at, tokens}
+use Rattle.og_lex.specs.Reading.{piece_at}
 use Rattle.og_lex.proofs.Scans.{IsRead, read_start, read_step, read_less, read_fail, read_end, empty_from_length, some_from_length}
 use Rattle.og_lex.proofs.lexer.read.Goals as goal
 

@@ -1,5 +1,5 @@
-use Rattle.std.proofs.Common.{◌≡◌, ◌^◌, ℕ, List, rules, arith, sym, ap, ◌∙◌, subst}
-use Rattle.std.specs.Prelude.{Some, None, Ok, Result}
+use Rattle.std.proofs.Common.{◌≡◌, ◌^◌, ℕ, List, sym, ap, ◌∙◌, subst}
+use Rattle.std.specs.Prelude.{Some, None, Ok}
 use Rattle.std.specs.Str.{chars}
 use Rattle.std.specs.Str.Parse.{ParsesUnsigned}
 use Rattle.std.proofs.lemmas.Bool.{cond-true, cond-false, lt-ltb, le-ltb}

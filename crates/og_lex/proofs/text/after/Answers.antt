@@ -1,4 +1,4 @@
-use Rattle.std.proofs.Common.{◌≡◌, true, rules, arith, sym, ◌∙◌}
+use Rattle.std.proofs.Common.{◌≡◌, true, rules}
 use Rattle.std.proofs.lemmas.Str.{IsUtf8-past_char}
 use Rattle.og_lex.specs.Characters.{has}
 use Rattle.og_lex.proofs.Texts.{passed-more}

@@ -1,6 +1,5 @@
-use Rattle.std.proofs.Common.{◌≡◌, ◌-◌, length, ◌++◌, rules, arith, sym, subst, ◌∙◌}
 use Rattle.std.specs.Prelude.{encode_utf8_all}
-use Rattle.std.specs.Str.{chars, IsCharBoundary}
+use Rattle.std.specs.Str.{chars}
 use Rattle.og_lex.specs.Characters.{has, run}
 use Rattle.og_lex.proofs.Texts.{seam_boundary}
 use Rattle.og_lex.proofs.text.cut.Goals as goal

@@ -1,6 +1,5 @@
 use Rattle.std.proofs.lemmas.Str.{chars_past_char}
-use Rattle.std.proofs.Common.{rules, ◌++◌, ap, ◌∙◌, sym}
-use Rattle.std.specs.Prelude.{encode_utf8}
+use Rattle.std.proofs.Common.{rules}
 use Rattle.og_lex.proofs.text.first.Goals as goal
 
 pub returns-clause-cases : goal.returns-clause-cases
