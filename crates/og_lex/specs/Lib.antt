@@ -1,0 +1,4 @@
+pub mod Characters
+pub mod Reading
+pub mod Spelling
+pub mod Tables

@@ -1,6 +1,18 @@
 //! The tokens of the language: names, numbers, texts, reserved words, marks and the separator.
 #![tactic(auto)]
 
+mod class;
+mod fault;
+mod laws;
+mod lexer;
+mod reader;
+mod text;
 mod token;
 
+pub use fault::LexFault;
+pub use laws::{one_lexing, some_lexing};
+pub use lexer::{MAX_TEXT, lex};
 pub use token::{Kind, Mark, Token, Word};
+
+#[cfg(test)]
+mod tests;

@@ -1,3 +1,8 @@
+ghost use Rattle.std.specs.Prelude.{◌≡◌, IsTrue};
+ghost use Rattle.std.specs.List.{list_all};
+ghost use Rattle.og_lex.specs.Tables.{word_text, mark_text};
+ghost use Rattle.og_lex.specs.Characters.{is_ascii_char};
+
 /// What a token is.
 #[derive(Clone, Copy, Debug, PartialEq, Eq)]
 pub enum Kind {
@@ -120,4 +125,89 @@ pub enum Mark {
     Then,
     /// `&&&`
     Beside,
+}
+
+impl Word {
+    /// How the word is written.
+    #[tactic(auto, unfolding(crate::specs::Tables::word_text))]
+    pub fn text(self) -> &'static str
+        ensures { result.now ≡ word_text self }
+    {
+        match self {
+            Word::Type => "type",
+            Word::Fn => "fn",
+            Word::Game => "game",
+            Word::Block => "block",
+            Word::Inputs => "inputs",
+            Word::Feedback => "feedback",
+            Word::Operation => "operation",
+            Word::Outputs => "outputs",
+            Word::Returns => "returns",
+            Word::DependentDecision => "dependentDecision",
+            Word::Nature => "nature",
+            Word::ForwardFunction => "forwardFunction",
+            Word::BackwardFunction => "backwardFunction",
+            Word::Identity => "identity",
+            Word::Library => "library",
+            Word::If => "if",
+            Word::Then => "then",
+            Word::Elif => "elif",
+            Word::Else => "else",
+            Word::End => "end",
+            Word::Table => "table",
+            Word::And => "and",
+            Word::Or => "or",
+            Word::Not => "not",
+            Word::True => "true",
+            Word::False => "false",
+            Word::Bool => "bool",
+            Word::Number => "number",
+            Word::Agent => "agent",
+            Word::Ratio => "ratio",
+            Word::Min => "min",
+            Word::Max => "max",
+            Word::Clamp => "clamp",
+            Word::Strategy => "strategy",
+            Word::Among => "among",
+            Word::Branch => "branch",
+            Word::Version => "version",
+        }
+    }
+}
+
+impl Mark {
+    /// How the mark is written.
+    #[tactic(auto, unfolding(crate::specs::Tables::mark_text))]
+    pub fn text(self) -> &'static str
+        ensures value { result.now ≡ mark_text self }
+        ensures ascii { IsTrue (list_all is_ascii_char result.now) }
+    {
+        match self {
+            Mark::LeftBrace => "{",
+            Mark::RightBrace => "}",
+            Mark::LeftParen => "(",
+            Mark::RightParen => ")",
+            Mark::LeftBracket => "[",
+            Mark::RightBracket => "]",
+            Mark::Comma => ",",
+            Mark::Semicolon => ";",
+            Mark::Colon => ":",
+            Mark::Dot => ".",
+            Mark::DotDot => "..",
+            Mark::Arrow => "->",
+            Mark::Assign => "=",
+            Mark::Equal => "==",
+            Mark::Differs => "!=",
+            Mark::Less => "<",
+            Mark::AtMost => "<=",
+            Mark::Greater => ">",
+            Mark::AtLeast => ">=",
+            Mark::Plus => "+",
+            Mark::Minus => "-",
+            Mark::Star => "*",
+            Mark::Slash => "/",
+            Mark::Then => ">>>",
+            Mark::Beside => "&&&",
+        }
+    }
 }

@@ -1,0 +1,15 @@
+pub mod Lengths
+pub mod Numbers
+pub mod Outcomes
+pub mod Pieces
+pub mod Placed
+pub mod Readings
+pub mod Runs
+pub mod Scans
+pub mod Single
+pub mod Sorts
+pub mod Strips
+pub mod Tabled
+pub mod Texts
+pub mod Tools
+pub mod Words

@@ -1,0 +1,103 @@
+-- Where the tokens of a text stand in it.
+use Rattle.std.proofs.Common.{◌≡◌, ℕ, ◌+◌, ◌-◌, ◌<◌, ◌≤◌, true, List, [], ◌∷◌, ◌++◌, length, take, drop, refl, sym, ap, ◌∙◌, subst, arith, append_assoc, length-append}
+use Rattle.std.specs.Prelude.{Option, Some, None, Result, Ok, Err, IfOk, encode_utf8_all, ◌&&◌}
+use Rattle.std.specs.List.{AllByRecursion}
+use Rattle.std.specs.Str.{IsUtf8, IsCharBoundary}
+use Rattle.std.proofs.Math.Seq.{take-append_seam, drop-append_seam}
+use Rattle.std.proofs.lemmas.Str.{encodes-chars, scalars-chars, encodes-append, IsCharBoundary-at_seam}
+use lib.Utf8.{scalar, scalars}
+use Rattle.og_lex.specs.declared.token.Kind.{Kind}
+use Rattle.og_lex.specs.declared.token.Token.{Token}
+use Rattle.og_lex.specs.declared.fault.LexFault.{LexFault}
+use Rattle.og_lex.specs.Characters.{byte_len}
+use Rattle.og_lex.specs.Spelling.{Spells, Stands, Piece, written, AllStand, with_piece, tokens_of, Lexed, AreInOrder, IsTokenOf}
+use Rattle.og_lex.proofs.Tools.{both}
+use Rattle.og_lex.proofs.Lengths.{byte_len-append, byte_len-chars, length-le-byte_len}
+use Rattle.og_lex.proofs.Single.{stands-some}
+
+-- each piece takes a byte or more
+bytes-some : (what : Option Kind) (front rest : List ℕ) → Stands what front rest → 0 < byte_len front
+bytes-some what [] rest s = absurd (stands-some what [] rest s refl)
+bytes-some what (c ∷ front) rest s = omega (arith, length-le-byte_len (c ∷ front))
+
+earlier : (place from end : ℕ) (ts : List Token) → place ≤ from → AreInOrder from end ts → AreInOrder place end ts
+earlier place from end [] l o = omega arith
+earlier place from end (t ∷ ts) l o = (omega (arith, o.0), o.1, o.2)
+
+one-in-order : (what : Option Kind) (place next end : ℕ) (ts : List Token) → place < next → AreInOrder next end ts → AreInOrder place end (with_piece what place next ts)
+one-in-order None place next end ts l o = earlier place next end ts (omega arith) o
+one-in-order (Some kind) place next end ts l o = (omega arith, l, o)
+
+in-order : (ps : List Piece) (rest : List ℕ) (place end : ℕ) → AllStand ps rest → place + byte_len (written ps) ≡ end → AreInOrder place end (tokens_of place ps)
+in-order [] rest place end s e = omega arith
+in-order (p ∷ ps) rest place end s e =
+    one-in-order p.what place (place + byte_len p.front) end (tokens_of (place + byte_len p.front) ps)
+    (omega (arith, bytes-some p.what p.front (written ps ++ rest) s.0))
+    (in-order ps rest (place + byte_len p.front) end s.1 (omega (arith, e, byte_len-append p.front (written ps))))
+
+scalars-parts : (xs ys : List ℕ) → scalars (xs ++ ys) ≡ true → (scalars xs ≡ true) × (scalars ys ≡ true)
+scalars-parts [] ys e = (refl, e)
+scalars-parts (x ∷ xs) ys e =
+    let h = both (scalar x) (scalars (xs ++ ys)) e in
+    let more = scalars-parts xs ys h.1 in
+    (ap (λ b. b && scalars xs) h.0 ∙ more.0, more.1)
+
+-- a text in three parts, of which the middle one writes a kind
+middle : (text before front after : List ℕ) (kind : Kind) → text ≡ encode_utf8_all (before ++ (front ++ after)) → scalars (before ++ (front ++ after)) ≡ true → 0 < byte_len front → Spells kind front
+    → IsTokenOf text (record { kind = kind; start = byte_len before; end = byte_len before + byte_len front })
+unfolding byte_len
+middle text before front after kind e u some s =
+    let b : List ℕ = encode_utf8_all before in
+    let f : List ℕ = encode_utf8_all front in
+    let a : List ℕ = encode_utf8_all after in
+    let back : encode_utf8_all (front ++ after) ≡ f ++ a = encodes-append front after in
+    let whole : text ≡ b ++ (f ++ a) = e ∙ encodes-append before (front ++ after) ∙ ap (λ l. b ++ l) back in
+    let cut : text ≡ (b ++ f) ++ a = whole ∙ sym (append_assoc b f a) in
+    let parts = scalars-parts before (front ++ after) u in
+    let later = scalars-parts front after parts.1 in
+    let here : length (b ++ f) ≡ length b + length f = length-append b f in
+    record {
+      some = omega arith;
+      within = omega (arith, ap length cut, length-append (b ++ f) a);
+      begins = IsCharBoundary-at_seam text b (f ++ a) whole (front ++ after, (parts.1, back));
+      ends = subst (IsCharBoundary text) here (IsCharBoundary-at_seam text (b ++ f) a cut (after, (later.1, refl)));
+      spelled = (
+        front,
+        (let width : length b + length f - length b ≡ length f = omega arith in
+            let from : drop (length b) text ≡ f ++ a = ap (drop (length b)) whole ∙ drop-append_seam b (f ++ a) in
+            ap (λ n. take n (drop (length b) text)) width ∙ ap (take (length f)) from ∙ take-append_seam f a),
+        s,
+      );
+    }
+
+one-written : (what : Option Kind) (text before front after : List ℕ) (ts : List Token) → text ≡ encode_utf8_all (before ++ (front ++ after)) → scalars (before ++ (front ++ after)) ≡ true → Stands what front (after ++ [])
+    → AllByRecursion (IsTokenOf text) ts → AllByRecursion (IsTokenOf text) (with_piece what (byte_len before) (byte_len before + byte_len front) ts)
+one-written None text before front after ts e u s more = more
+one-written (Some kind) text before front after ts e u s more =
+    (middle text before front after kind e u (bytes-some (Some kind) front (after ++ []) s) s.0.begins.spelled, more)
+
+each-written : (ps : List Piece) (text before : List ℕ) → AllStand ps [] → text ≡ encode_utf8_all (before ++ written ps) → scalars (before ++ written ps) ≡ true → AllByRecursion (IsTokenOf text) (tokens_of (byte_len before) ps)
+each-written [] text before s e u = tt
+each-written (p ∷ ps) text before s e u =
+    let next : List ℕ = before ++ p.front in
+    let join : before ++ (p.front ++ written ps) ≡ next ++ written ps = sym (append_assoc before p.front (written ps)) in
+    let more : AllByRecursion (IsTokenOf text) (tokens_of (byte_len next) ps) = each-written ps text next s.1 (e ∙ ap encode_utf8_all join) (ap scalars (sym join) ∙ u) in
+    let there : AllByRecursion (IsTokenOf text) (tokens_of (byte_len before + byte_len p.front) ps) =
+    subst (λ n. AllByRecursion (IsTokenOf text) (tokens_of n ps)) (byte_len-append before p.front) more in
+    one-written p.what text before p.front (written ps) (tokens_of (byte_len before + byte_len p.front) ps) e u s.0 there
+
+no-bytes : byte_len [] ≡ 0
+unfolding byte_len
+no-bytes = refl
+
+pub order-from : (text : List ℕ) (r : Result (List Token) LexFault) → IsUtf8 text → Lexed text r → IfOk r (AreInOrder 0 (length text))
+order-from text (Err fault) u l = tt
+order-from text (Ok ts) u l =
+    let end : 0 + byte_len (written l.pieces) ≡ length text = omega (arith, ap byte_len l.whole, byte_len-chars text u) in
+    subst (AreInOrder 0 (length text)) (sym l.tokens) (in-order l.pieces [] 0 (length text) l.each end)
+
+pub each-from : (text : List ℕ) (r : Result (List Token) LexFault) → IsUtf8 text → Lexed text r → IfOk r (AllByRecursion (IsTokenOf text))
+each-from text (Err fault) u l = tt
+each-from text (Ok ts) u l =
+    let all = each-written l.pieces text [] l.each (sym (encodes-chars text u) ∙ ap encode_utf8_all l.whole) (ap scalars (sym l.whole) ∙ scalars-chars text u) in
+    subst (AllByRecursion (IsTokenOf text)) (sym l.tokens) (subst (λ n. AllByRecursion (IsTokenOf text) (tokens_of n l.pieces)) no-bytes all)

@@ -1,0 +1,194 @@
+-- At most one row of pieces makes a text, so at most one outcome is right.
+use Rattle.std.proofs.Common.{◌≡◌, ◌≢◌, inl, inr, ℕ, ◌≤◌, List, [], ◌∷◌, ◌++◌, length, refl, sym, ap, ◌∙◌, subst, arith, append_assoc, length-append}
+use Rattle.std.specs.Prelude.{Option, Some, None, Result, Ok, Err, codes}
+use Rattle.std.specs.Str.{chars}
+use Rattle.std.specs.Str.Parse.{digits_value}
+use Rattle.std.proofs.lemmas.List.{append-nil}
+use Rattle.og_lex.specs.declared.token.Kind.{Kind}
+use Rattle.og_lex.specs.declared.token.Kind.TheVariants as kinds
+use Rattle.og_lex.specs.declared.token.Word.{Word}
+use Rattle.og_lex.specs.declared.token.Mark.{Mark}
+use Rattle.og_lex.specs.declared.token.Token.{Token}
+use Rattle.og_lex.specs.declared.fault.LexFault.{LexFault}
+use Rattle.og_lex.specs.declared.fault.LexFault.TheVariants as faults
+use Rattle.og_lex.specs.Characters.{is_blank, is_in_comment, run, byte_len}
+use Rattle.og_lex.specs.Tables.{word_text}
+use Rattle.og_lex.specs.Reading.{kind_of, word_of}
+use Rattle.og_lex.specs.Spelling.{Spells, IsTokenAt, IsBlank, IsComment, Stands, Piece, written, AllStand, tokens_of, NothingStands, fault_of, FaultAt, Lexed}
+use Rattle.og_lex.proofs.Runs.{run-exact}
+use Rattle.og_lex.proofs.Sorts.{Sort, space, letter, line, digit, quote, symbol, kind_sort, sort_of-blank, spelled-sort, spelled-some}
+use Rattle.og_lex.proofs.Readings.{begins-sort}
+use Rattle.og_lex.proofs.Tabled.{word_of-text, word_of-is, mark-short, named, named-text, named-is}
+
+-- the one kind of a sort that these characters spell
+abbrev marked_kind : Option Mark → Kind
+marked_kind None = kinds.Separator
+marked_kind (Some m) = kinds.Mark m
+
+abbrev kind_from : Sort → List ℕ → Kind
+kind_from space front = kinds.Name
+kind_from letter front = kind_of (word_of front)
+kind_from line front = kinds.Under
+kind_from digit front = kinds.Number (digits_value 10 front)
+kind_from quote front = kinds.Text
+kind_from symbol front = marked_kind (named front)
+
+no-word : (front : List ℕ) → ((w : Word) → front ≢ word_text w) → (o : Option Word) → word_of front ≡ o → o ≡ None
+no-word front n None e = refl
+no-word front n (Some w) e = absurd (n w (word_of-is front w e))
+
+no-mark : (front : List ℕ) → 4 ≤ length front → (o : Option Mark) → named front ≡ o → o ≡ None
+no-mark front l None e = refl
+no-mark front l (Some m) e = absurd (omega (arith, mark-short m, ap length (named-is front m e)))
+
+kind_from-spelled : (kind : Kind) (front : List ℕ) → Spells kind front → kind ≡ kind_from (kind_sort kind) front
+kind_from-spelled kinds.Name front s = sym (ap kind_of (no-word front s.1 (word_of front) refl))
+kind_from-spelled kinds.Under front s = refl
+kind_from-spelled (kinds.Number n) front s = ap kinds.Number (sym s.2)
+kind_from-spelled kinds.Text front s = refl
+kind_from-spelled (kinds.Word w) front s = sym (ap kind_of (ap word_of s ∙ word_of-text w))
+kind_from-spelled (kinds.Mark m) front s = sym (ap marked_kind (ap named s ∙ named-text m))
+kind_from-spelled kinds.Separator front s =
+    sym (ap marked_kind (no-mark front (omega (arith, ap length s.1, length-append s.0 (58 ∷ []), s.3)) (named front) refl))
+
+same-kind : (k j : Kind) (front : List ℕ) → Spells k front → Spells j front → k ≡ j
+same-kind k j [] s t = absurd (spelled-some k [] s refl)
+same-kind k j (c ∷ front) s t =
+    let sorts : kind_sort k ≡ kind_sort j = sym (spelled-sort k c front s) ∙ spelled-sort j c front t in
+    kind_from-spelled k (c ∷ front) s ∙ ap (λ x. kind_from x (c ∷ front)) sorts ∙ sym (kind_from-spelled j (c ∷ front) t)
+
+-- two cuts of one list at one place
+tails : (c d : ℕ) (cs ds : List ℕ) → c ∷ cs ≡ d ∷ ds → (c ≡ d) × (cs ≡ ds)
+tails c d cs ds e = (cc, cc)
+
+same-cut : (f g r s : List ℕ) → f ++ r ≡ g ++ s → length f ≡ length g → (f ≡ g) × (r ≡ s)
+same-cut [] [] r s e l = (refl, e)
+same-cut [] (d ∷ g) r s e l = absurd (omega arith)
+same-cut (c ∷ f) [] r s e l = absurd (omega arith)
+same-cut (c ∷ f) (d ∷ g) r s e l =
+    let t = tails c d (f ++ r) (g ++ s) e in
+    let m : length f ≡ length g = omega arith in
+    let more = same-cut f g r s t.1 m in
+    let h = t.0 in let k = more.0 in
+    (cc, more.1)
+
+-- two pieces at one place are one
+pub record AreOne (what that : Option Kind) (f g r s : List ℕ) : Type 0 where
+  pub whats : what ≡ that
+  pub fronts : f ≡ g
+  pub rests : r ≡ s
+
+tokens-one : (k j : Kind) (f g r s : List ℕ) → f ++ r ≡ g ++ s → IsTokenAt k f r → IsTokenAt j g s → AreOne (Some k) (Some j) f g r s
+tokens-one k j f g r s e a b =
+    let long = a.longest j g s (sym e) b.begins in
+    let short = b.longest k f r e a.begins in
+    let cut = same-cut f g r s e (omega arith) in
+    let here : Spells j f = subst (Spells j) (sym cut.0) b.begins.spelled in
+    record { whats = ap Some (same-kind k j f a.begins.spelled here); fronts = cut.0; rests = cut.1 }
+
+blanks-one : (f g r s : List ℕ) → f ++ r ≡ g ++ s → IsBlank f → IsBlank g → AreOne None None f g r s
+blanks-one f g r s e a b =
+    let cut = same-cut f g r s e (omega (arith, ap length a.1, ap length b.1)) in
+    record { whats = refl; fronts = cut.0; rests = cut.1 }
+
+comments-one : (f g r s : List ℕ) → f ++ r ≡ g ++ s → IsComment f r → IsComment g s → AreOne None None f g r s
+comments-one f g r s e a b =
+    let left : codes "//" ++ (a.0 ++ r) ≡ codes "//" ++ (b.0 ++ s) = ap (λ l. l ++ r) (sym a.1) ∙ e ∙ ap (λ l. l ++ s) b.1 in
+    let inner : a.0 ++ r ≡ b.0 ++ s = (tails 47 47 (a.0 ++ r) (b.0 ++ s) (tails 47 47 (47 ∷ (a.0 ++ r)) (47 ∷ (b.0 ++ s)) left).1).1 in
+    let same : a.0 ≡ b.0 = sym (run-exact is_in_comment a.0 r a.2 a.3) ∙ ap (run is_in_comment) inner ∙ run-exact is_in_comment b.0 s b.2 b.3 in
+    let fronts : f ≡ g = a.1 ∙ ap (λ l. codes "//" ++ l) same ∙ sym b.1 in
+    let cut = same-cut f g r s e (ap length fronts) in
+    record { whats = refl; fronts = fronts; rests = cut.1 }
+
+blank-comment : (f g r s : List ℕ) → f ++ r ≡ g ++ s → IsBlank f → IsComment g s → ⊥
+blank-comment f g r s e a b =
+    let both : a.0 ∷ r ≡ 47 ∷ (47 ∷ (b.0 ++ s)) = ap (λ l. l ++ r) (sym a.1) ∙ e ∙ ap (λ l. l ++ s) b.1 in
+    let at = (tails a.0 47 r (47 ∷ (b.0 ++ s)) both).0 in
+    let f = ap is_blank at in let g = a.2 in cc
+
+no-space : (k : Kind) → kind_sort k ≡ space → ⊥
+no-space kinds.Name e = cc
+no-space kinds.Under e = cc
+no-space (kinds.Number n) e = cc
+no-space kinds.Text e = cc
+no-space (kinds.Word w) e = cc
+no-space (kinds.Mark m) e = cc
+no-space kinds.Separator e = cc
+
+blank-token : (k : Kind) (f g r s : List ℕ) → f ++ r ≡ g ++ s → IsBlank f → IsTokenAt k g s → ⊥
+blank-token k f g r s e a b =
+    let here : g ++ s ≡ a.0 ∷ r = sym e ∙ ap (λ l. l ++ r) a.1 in
+    no-space k (sym (begins-sort k g s a.0 r here b.begins) ∙ sort_of-blank a.0 a.2)
+
+comment-token : (f g r s : List ℕ) → f ++ r ≡ g ++ s → IsComment f r → ((after : List ℕ) → g ++ s ≢ codes "//" ++ after) → ⊥
+comment-token f g r s e a n = n (a.0 ++ r) (sym e ∙ ap (λ l. l ++ r) a.1)
+
+one_piece : (what that : Option Kind) (f g r s : List ℕ) → f ++ r ≡ g ++ s → Stands what f r → Stands that g s → AreOne what that f g r s
+one_piece (Some k) (Some j) f g r s e a b = tokens-one k j f g r s e a.0 b.0
+one_piece None None f g r s e (inl a) (inl b) = blanks-one f g r s e a b
+one_piece None None f g r s e (inr a) (inr b) = comments-one f g r s e a b
+one_piece None None f g r s e (inl a) (inr b) = absurd (blank-comment f g r s e a b)
+one_piece None None f g r s e (inr a) (inl b) = absurd (blank-comment g f s r (sym e) b a)
+one_piece None (Some j) f g r s e (inl a) b = absurd (blank-token j f g r s e a b.0)
+one_piece None (Some j) f g r s e (inr a) b = absurd (comment-token f g r s e a b.1)
+one_piece (Some k) None f g r s e a (inl b) = absurd (blank-token k g f s r (sym e) b a.0)
+one_piece (Some k) None f g r s e a (inr b) = absurd (comment-token g f s r (sym e) b a.1)
+
+-- each piece has a character
+pub stands-some : (what : Option Kind) (front rest : List ℕ) → Stands what front rest → front ≢ []
+stands-some None front rest (inl a) e = let h = a.1 in cc
+stands-some None front rest (inr a) e = let h = a.1 in cc
+stands-some (Some k) front rest a e = spelled-some k front a.0.begins.spelled e
+
+nothing-left : NothingStands []
+nothing-left what [] rest e s = stands-some what [] rest s refl
+nothing-left what (c ∷ front) rest e s = cc
+
+same-piece : (p q : Piece) → p.what ≡ q.what → p.front ≡ q.front → p ≡ q
+same-piece p q e f =
+    let made : Option Kind → List ℕ → Piece = λ w l. record { what = w; front = l } in
+    ap (λ w. made w p.front) e ∙ ap (made q.what) f
+
+one_row : (ps qs : List Piece) (r s : List ℕ) → AllStand ps r → AllStand qs s → written ps ++ r ≡ written qs ++ s → NothingStands r → NothingStands s → (ps ≡ qs) × (r ≡ s)
+one_row [] [] r s a b e n m = (refl, e)
+one_row [] (q ∷ qs) r s a b e n m = absurd (n q.what q.front (written qs ++ s) (sym (e ∙ append_assoc q.front (written qs) s)) b.0)
+one_row (p ∷ ps) [] r s a b e n m = absurd (m p.what p.front (written ps ++ r) (sym (append_assoc p.front (written ps) r) ∙ e) a.0)
+one_row (p ∷ ps) (q ∷ qs) r s a b e n m =
+    let split : p.front ++ (written ps ++ r) ≡ q.front ++ (written qs ++ s) = sym (append_assoc p.front (written ps) r) ∙ e ∙ append_assoc q.front (written qs) s in
+    let one = one_piece p.what q.what p.front q.front (written ps ++ r) (written qs ++ s) split a.0 b.0 in
+    let more = one_row ps qs r s a.1 b.1 one.rests n m in
+    let here = same-piece p q one.whats one.fronts in
+    let there = more.0 in
+    (cc, more.1)
+
+-- what a row of pieces, and what stands behind it, says of a text
+abbrev outcome_of : List Piece → List ℕ → Result (List Token) LexFault
+outcome_of ps [] = Ok (tokens_of 0 ps)
+outcome_of ps (c ∷ cs) = Err (fault_of (byte_len (written ps)) c)
+
+record IsOutcome (text : List ℕ) (r : Result (List Token) LexFault) : Type 0 where
+  pieces : List Piece
+  rest : List ℕ
+  whole : chars text ≡ written pieces ++ rest
+  each : AllStand pieces rest
+  nothing : NothingStands rest
+  is : r ≡ outcome_of pieces rest
+
+fault-outcome : (text : List ℕ) (fault : LexFault) (ps : List Piece) (rest : List ℕ) → chars text ≡ written ps ++ rest → AllStand ps rest → FaultAt (byte_len (written ps)) rest fault → IsOutcome text (Err fault)
+fault-outcome text fault ps [] w e c = absurd c
+fault-outcome text fault ps (x ∷ rest) w e c = record { pieces = ps; rest = x ∷ rest; whole = w; each = e; nothing = c.0; is = ap Err c.1 }
+
+outcome-from : (text : List ℕ) (r : Result (List Token) LexFault) → Lexed text r → r ≢ Err faults.Memory → IsOutcome text r
+outcome-from text (Ok ts) l n = record { pieces = l.pieces; rest = []; whole = l.whole ∙ sym (append-nil (written l.pieces)); each = l.each; nothing = nothing-left; is = ap Ok l.tokens }
+outcome-from text (Err faults.Memory) l n = absurd (n refl)
+outcome-from text (Err (faults.BadChar p)) l n = fault-outcome text (faults.BadChar p) l.pieces l.rest l.whole l.each l.cause
+outcome-from text (Err (faults.OpenText p)) l n = fault-outcome text (faults.OpenText p) l.pieces l.rest l.whole l.each l.cause
+outcome-from text (Err (faults.WideNumber p)) l n = fault-outcome text (faults.WideNumber p) l.pieces l.rest l.whole l.each l.cause
+
+pub one-lexing : (text : List ℕ) (r s : Result (List Token) LexFault) → Lexed text r → Lexed text s → r ≢ Err faults.Memory → s ≢ Err faults.Memory → r ≡ s
+one-lexing text r s l m n o =
+    let a = outcome-from text r l n in
+    let b = outcome-from text s m o in
+    let one = one_row a.pieces b.pieces a.rest b.rest a.each b.each (sym a.whole ∙ b.whole) a.nothing b.nothing in
+    let h = one.0 in let k = one.1 in let i = a.is in let j = b.is in
+    a.is ∙ ap (λ ps. outcome_of ps a.rest) one.0 ∙ ap (outcome_of b.pieces) one.1 ∙ sym b.is

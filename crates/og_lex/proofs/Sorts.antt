@@ -1,0 +1,245 @@
+-- The first character of a token tells of which sort it is.
+use Rattle.std.proofs.Common.{◌≡◌, ◌≢◌, inl, inr, ℕ, ◌<◌, Bool, true, false, List, [], ◌∷◌, ◌++◌, refl, sym, ap, ◌∙◌, subst, arith, lit<}
+use Rattle.std.specs.Prelude.{◌==◌, ◌&&◌, ◌||◌, nat_le}
+use Rattle.std.specs.List.{list_all}
+use Rattle.std.specs.Char.{is_ascii_alphabetic}
+use Rattle.std.proofs.lemmas.Bool.{ltb-true, leb-true, eqb-true}
+use Rattle.unicode_ident.specs.Ident.{is_xid_start, is_xid_continue}
+use Rattle.unicode_ident.proofs.IdentLemmas.{is_xid_start-ascii, is_xid_start-is_xid_continue}
+use Rattle.og_lex.specs.declared.token.Kind.{Kind}
+use Rattle.og_lex.specs.declared.token.Kind.TheVariants as kinds
+use Rattle.og_lex.specs.declared.token.Word.{Word}
+use Rattle.og_lex.specs.declared.token.Word.TheVariants as words
+use Rattle.og_lex.specs.declared.token.Mark.{Mark}
+use Rattle.og_lex.specs.declared.token.Mark.TheVariants as marks
+use Rattle.og_lex.specs.Characters.{is_blank, is_digit, is_ascii_char}
+use Rattle.og_lex.specs.Tables.{word_text, mark_text}
+use Rattle.og_lex.specs.Spelling.{Spells, is_name}
+use Rattle.og_lex.proofs.Tools.{either_way, either, both, both-yes}
+use Rattle.og_lex.proofs.Numbers.{digit-range}
+
+pub data Sort : Type 0 where
+  space : Sort
+  letter : Sort
+  line : Sort
+  digit : Sort
+  quote : Sort
+  symbol : Sort
+
+abbrev pub sort_from : (blank starts under digits quotes : Bool) → Sort
+sort_from true starts under digits quotes = space
+sort_from false true under digits quotes = letter
+sort_from false false true digits quotes = line
+sort_from false false false true quotes = digit
+sort_from false false false false true = quote
+sort_from false false false false false = symbol
+
+unfoldable pub sort_of : ℕ → Sort
+sort_of c = sort_from (is_blank c) (is_xid_start c) (c == 95) (is_digit c) (c == 34)
+
+abbrev pub is_symbol : Sort → Bool
+is_symbol symbol = true
+is_symbol s = false
+
+abbrev pub kind_sort : Kind → Sort
+kind_sort kinds.Name = letter
+kind_sort kinds.Under = line
+kind_sort (kinds.Number n) = digit
+kind_sort kinds.Text = quote
+kind_sort (kinds.Word w) = letter
+kind_sort (kinds.Mark m) = symbol
+kind_sort kinds.Separator = symbol
+
+-- an ASCII character has the sort that these tests give
+abbrev pub ascii_sort : ℕ → Sort
+ascii_sort c = sort_from (is_blank c) (is_ascii_alphabetic c) (c == 95) (is_digit c) (c == 34)
+
+pub sort_of-ascii : (c : ℕ) → c < 128 → sort_of c ≡ ascii_sort c
+unfolding sort_of
+sort_of-ascii c h = ap (λ b. sort_from (is_blank c) b (c == 95) (is_digit c) (c == 34)) (is_xid_start-ascii c h)
+
+pub blank-each : (P : ℕ → Type 0) (c : ℕ) → is_blank c ≡ true → P 32 → P 9 → P 10 → P 13 → P c
+blank-each P c e p32 p9 p10 p13 =
+    elim (either ((c == 32) || (c == 9) || (c == 10)) (c == 13) e) [
+      | inl three ↦ elim (either ((c == 32) || (c == 9)) (c == 10) three) [
+        | inl two ↦ elim (either (c == 32) (c == 9) two) [
+          | inl at ↦ subst P (sym (eqb-true c 32 at)) p32
+          | inr at ↦ subst P (sym (eqb-true c 9 at)) p9
+        ]
+        | inr at ↦ subst P (sym (eqb-true c 10 at)) p10
+      ]
+      | inr at ↦ subst P (sym (eqb-true c 13 at)) p13
+    ]
+
+-- what begins a name is no blank
+blank-ascii : (c : ℕ) → is_blank c ≡ true → (c < 128) × (is_ascii_alphabetic c ≡ false)
+blank-ascii c e = blank-each (λ x. (x < 128) × (is_ascii_alphabetic x ≡ false)) c e (lit< tt, refl) (lit< tt, refl) (lit< tt, refl) (lit< tt, refl)
+
+no-blank : (c : ℕ) → (is_blank c ≡ true → ⊥) → is_blank c ≡ false
+no-blank c h = elim (either_way (is_blank c)) [ inl b ↦ absurd (h b) | inr other ↦ other ]
+
+pub sort_of-starts : (c : ℕ) → is_xid_start c ≡ true → sort_of c ≡ letter
+unfolding sort_of
+sort_of-starts c e =
+    let other : is_blank c ≡ false = no-blank c (λ b. let h = blank-ascii c b in let n = is_xid_start-ascii c h.0 in let m = h.1 in cc) in
+    ap (λ b. sort_from b (is_xid_start c) (c == 95) (is_digit c) (c == 34)) other ∙ ap (λ b. sort_from false b (c == 95) (is_digit c) (c == 34)) e
+
+pub sort_of-digit : (c : ℕ) → is_digit c ≡ true → sort_of c ≡ digit
+sort_of-digit c e =
+    let r = digit-range c e in
+    let other : is_blank c ≡ false = no-blank c (λ b. let n = blank-each (λ x. is_digit x ≡ false) c b refl refl refl refl in cc) in
+    let letters : is_ascii_alphabetic c ≡ false = elim (either_way (is_ascii_alphabetic c)) [
+      | inl a ↦ elim (either (nat_le 65 c && nat_le c 90) (nat_le 97 c && nat_le c 122) a) [
+        | inl b ↦ absurd (omega (arith, leb-true 65 c (both (nat_le 65 c) (nat_le c 90) b).0))
+        | inr b ↦ absurd (omega (arith, leb-true 97 c (both (nat_le 97 c) (nat_le c 122) b).0))
+      ]
+      | inr n ↦ n
+    ] in
+    let under : (c == 95) ≡ false = elim (either_way (c == 95)) [ inl a ↦ absurd (omega (arith, eqb-true c 95 a)) | inr n ↦ n ] in
+    let small : c < 128 = omega arith in
+    sort_of-ascii c small
+    ∙ ap (λ b. sort_from b (is_ascii_alphabetic c) (c == 95) (is_digit c) (c == 34)) other
+    ∙ ap (λ b. sort_from false b (c == 95) (is_digit c) (c == 34)) letters
+    ∙ ap (λ b. sort_from false false b (is_digit c) (c == 34)) under
+    ∙ ap (λ b. sort_from false false false b (c == 34)) e
+
+pub sort_of-blank : (c : ℕ) → is_blank c ≡ true → sort_of c ≡ space
+unfolding sort_of
+sort_of-blank c e = ap (λ b. sort_from b (is_xid_start c) (c == 95) (is_digit c) (c == 34)) e
+
+-- reserved words are names
+names : List ℕ → Bool
+names [] = false
+names (c ∷ cs) = is_ascii_char c && is_ascii_alphabetic c && list_all (λ x. is_ascii_char x && is_ascii_alphabetic x) cs
+
+word-names : (w : Word) → names (word_text w) ≡ true
+unfolding word_text names
+word-names words.«Type» = refl
+word-names words.Fn = refl
+word-names words.Game = refl
+word-names words.Block = refl
+word-names words.Inputs = refl
+word-names words.Feedback = refl
+word-names words.Operation = refl
+word-names words.Outputs = refl
+word-names words.Returns = refl
+word-names words.DependentDecision = refl
+word-names words.Nature = refl
+word-names words.ForwardFunction = refl
+word-names words.BackwardFunction = refl
+word-names words.Identity = refl
+word-names words.Library = refl
+word-names words.If = refl
+word-names words.Then = refl
+word-names words.Elif = refl
+word-names words.Else = refl
+word-names words.End = refl
+word-names words.Table = refl
+word-names words.And = refl
+word-names words.Or = refl
+word-names words.Not = refl
+word-names words.True = refl
+word-names words.False = refl
+word-names words.Bool = refl
+word-names words.Number = refl
+word-names words.Agent = refl
+word-names words.Ratio = refl
+word-names words.Min = refl
+word-names words.Max = refl
+word-names words.Clamp = refl
+word-names words.Strategy = refl
+word-names words.Among = refl
+word-names words.Branch = refl
+word-names words.Version = refl
+
+-- the sort of the first character, and that it is ASCII
+marks_sort : List ℕ → Bool
+marks_sort [] = false
+marks_sort (c ∷ cs) = is_ascii_char c && is_symbol (ascii_sort c)
+
+mark-sorts : (m : Mark) → marks_sort (mark_text m) ≡ true
+unfolding mark_text marks_sort
+mark-sorts marks.LeftBrace = refl
+mark-sorts marks.RightBrace = refl
+mark-sorts marks.LeftParen = refl
+mark-sorts marks.RightParen = refl
+mark-sorts marks.LeftBracket = refl
+mark-sorts marks.RightBracket = refl
+mark-sorts marks.Comma = refl
+mark-sorts marks.Semicolon = refl
+mark-sorts marks.Colon = refl
+mark-sorts marks.Dot = refl
+mark-sorts marks.DotDot = refl
+mark-sorts marks.Arrow = refl
+mark-sorts marks.Assign = refl
+mark-sorts marks.Equal = refl
+mark-sorts marks.Differs = refl
+mark-sorts marks.Less = refl
+mark-sorts marks.AtMost = refl
+mark-sorts marks.Greater = refl
+mark-sorts marks.AtLeast = refl
+mark-sorts marks.Plus = refl
+mark-sorts marks.Minus = refl
+mark-sorts marks.Star = refl
+mark-sorts marks.Slash = refl
+mark-sorts marks.Then = refl
+mark-sorts marks.Beside = refl
+
+letter-starts : (c : ℕ) → (is_ascii_char c && is_ascii_alphabetic c) ≡ true → is_xid_start c ≡ true
+letter-starts c e = let h = both (is_ascii_char c) (is_ascii_alphabetic c) e in is_xid_start-ascii c (ltb-true c 128 h.0) ∙ h.1
+
+symbol-true : (s : Sort) → is_symbol s ≡ true → s ≡ symbol
+symbol-true space e = cc
+symbol-true letter e = cc
+symbol-true line e = cc
+symbol-true digit e = cc
+symbol-true quote e = cc
+symbol-true symbol e = refl
+
+none-marked : marks_sort [] ≡ true → ⊥
+unfolding marks_sort
+none-marked e = cc
+
+mark-sort : (c : ℕ) (cs : List ℕ) → marks_sort (c ∷ cs) ≡ true → sort_of c ≡ symbol
+unfolding marks_sort
+mark-sort c cs e = let h = both (is_ascii_char c) (is_symbol (ascii_sort c)) e in sort_of-ascii c (ltb-true c 128 h.0) ∙ symbol-true (ascii_sort c) h.1
+
+first : (c d : ℕ) (cs ds : List ℕ) → c ∷ cs ≡ d ∷ ds → c ≡ d
+first c d cs ds e = cc
+
+letters-continue : (cs : List ℕ) → list_all (λ x. is_ascii_char x && is_ascii_alphabetic x) cs ≡ true → list_all is_xid_continue cs ≡ true
+letters-continue [] e = refl
+letters-continue (c ∷ cs) e =
+    let h = both (is_ascii_char c && is_ascii_alphabetic c) (list_all (λ x. is_ascii_char x && is_ascii_alphabetic x) cs) e in
+    both-yes (is_xid_continue c) (list_all is_xid_continue cs) (is_xid_start-is_xid_continue c (letter-starts c h.0)) (letters-continue cs h.1)
+
+letters-name : (cs : List ℕ) → names cs ≡ true → is_name cs ≡ true
+unfolding names
+letters-name [] e = e
+letters-name (c ∷ cs) e =
+    let h = both (is_ascii_char c && is_ascii_alphabetic c) (list_all (λ x. is_ascii_char x && is_ascii_alphabetic x) cs) e in
+    both-yes (is_xid_start c) (list_all is_xid_continue cs) (letter-starts c h.0) (letters-continue cs h.1)
+
+pub word-is_name : (w : Word) → is_name (word_text w) ≡ true
+word-is_name w = letters-name (word_text w) (word-names w)
+
+-- the first character of what spells a kind has the kind's sort
+pub spelled-sort : (kind : Kind) (c : ℕ) (cs : List ℕ) → Spells kind (c ∷ cs) → sort_of c ≡ kind_sort kind
+spelled-sort kinds.Name c cs s = sort_of-starts c (both (is_xid_start c) (list_all is_xid_continue cs) s.0).0
+spelled-sort kinds.Under c cs s = ap sort_of (first c 95 cs s.0 s.1) ∙ sort_of-ascii 95 (lit< tt)
+spelled-sort (kinds.Number n) c cs s = sort_of-digit c (both (is_digit c) (list_all is_digit cs) s.1).0
+spelled-sort kinds.Text c cs s = ap sort_of (first c 34 cs (s.0 ++ 34 ∷ []) s.1) ∙ sort_of-ascii 34 (lit< tt)
+spelled-sort (kinds.Word w) c cs s =
+    let n : is_name (c ∷ cs) ≡ true = ap is_name s ∙ word-is_name w in
+    sort_of-starts c (both (is_xid_start c) (list_all is_xid_continue cs) n).0
+spelled-sort (kinds.Mark m) c cs s = mark-sort c cs (ap marks_sort s ∙ mark-sorts m)
+spelled-sort kinds.Separator c cs s = ap sort_of (first c 58 cs (s.0 ++ 58 ∷ []) s.1) ∙ sort_of-ascii 58 (lit< tt)
+
+pub spelled-some : (kind : Kind) (front : List ℕ) → Spells kind front → front ≢ []
+spelled-some kinds.Name front s e = let n = ap is_name e in let m = s.0 in cc
+spelled-some kinds.Under front s e = let h = s.1 in cc
+spelled-some (kinds.Number n) front s e = s.0 e
+spelled-some kinds.Text front s e = let h = s.1 in cc
+spelled-some (kinds.Word w) front s e = let n : is_name [] ≡ true = ap is_name (sym e ∙ s) ∙ word-is_name w in cc
+spelled-some (kinds.Mark m) front s e = none-marked (ap marks_sort (sym e ∙ s) ∙ mark-sorts m)
+spelled-some kinds.Separator front s e = let h = s.1 in cc

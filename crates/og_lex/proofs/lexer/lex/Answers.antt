@@ -1,0 +1,15 @@
+use Rattle.og_lex.proofs.Outcomes.{exact_from, lexed_exact}
+use Rattle.og_lex.proofs.Placed.{order-from, each-from}
+use Rattle.og_lex.proofs.lexer.lex.Goals as goal
+
+pub returns-clause-exact : goal.returns-clause-exact
+returns-clause-exact c = exact_from c.args.text.now c.read.result c.read.ensures
+
+pub returns-clause-lexed : goal.returns-clause-lexed
+returns-clause-lexed c = lexed_exact c.args.text.now c.read.result (exact_from c.args.text.now c.read.result c.read.ensures)
+
+pub returns-clause-order : goal.returns-clause-order
+returns-clause-order c = order-from c.args.text.now c.read.result c.utf8.text (lexed_exact c.args.text.now c.read.result (exact_from c.args.text.now c.read.result c.read.ensures))
+
+pub returns-clause-each : goal.returns-clause-each
+returns-clause-each c = each-from c.args.text.now c.read.result c.utf8.text (lexed_exact c.args.text.now c.read.result (exact_from c.args.text.now c.read.result c.read.ensures))
