@@ -1,2 +1,5 @@
 pub mod Merges
 pub mod Long
+pub mod Gaps
+pub mod PlainTexts
+pub mod Trees

@@ -33,12 +33,16 @@ pub record BadStrategy (tree : SmallGame) (strategy : List ℕ) (ends : Status) 
   pub ends_as : ends ≡ status.StrategyText
   pub writes : bytes ≡ refused (codes "strategy NotBuilt at 1:1")
 
+-- how a run ends that writes a report: whether it lists a deviation
+abbrev pub verdict_of : SmallGame → List Section → Status
+verdict_of tree sections = if length (deviations tree (choices_of sections)) == 0 then status.Done else status.Deviations
+
 -- Both texts are accepted.
 pub record Reports (tree : SmallGame) (strategy : List ℕ) (ends : Status) (bytes : List ℕ) : Type 0 where
   pub sections : List Section
   pub is_strategy : IsStrategy strategy sections
   pub suits : fits tree sections ≡ true
-  pub ends_as : ends ≡ (if length (deviations tree (choices_of sections)) == 0 then status.Done else status.Deviations)
+  pub ends_as : ends ≡ verdict_of tree sections
   pub writes : bytes ≡ report tree (choices_of sections)
 
 -- The game's text is the small game of this tree.

@@ -1,15 +1,17 @@
 ghost use Rattle.std.specs.Prelude.{◌≡◌, ℕ, List, ◌≤◌, ◌⊎◌, Some, None, IfOk, OnOk, map, string_bytes};
 ghost use Rattle.og_io.specs.Outside.{NoneRose, OnlyMoves};
+ghost use Rattle.og_small.specs.Meaning.{choices_of};
+ghost use Rattle.og_small.specs.Report.{report};
 ghost use Rattle.og_tool.specs.Words.{named};
-ghost use Rattle.og_tool.specs.Answer.{BadStrategy, Reports, Intends, MovesNamed};
+ghost use Rattle.og_tool.specs.Answer.{BadStrategy, Reports, verdict_of, Intends, MovesNamed};
 ghost use Rattle.og_tool.specs.Steps.{StepsToGame, StepsToStrategy};
 
 use crate::Status;
 use crate::fetch::{Fetched, fetch};
-use crate::read::{game_of, strategy_of};
+use crate::read::{game_of, one_small_strategy, strategy_of};
 use og_io::Files;
 use og_list::List;
-use og_small::{SmallGame, fits, report_on};
+use og_small::{Section, SmallGame, fits, report_on};
 use std::alloc::{AllocError, Global};
 
 /// What to write, and the status to end with.
@@ -54,28 +56,39 @@ fn step_to_game<F: Files>(alloc: Global, file: &str, files: &mut F) -> Result<Ga
     }
 }
 
+/// The report on the game where the sections are played.
+fn reported(alloc: Global, tree: &SmallGame, sections: &[Section]) -> Result<Answer, AllocError>
+    ensures ends { IfOk result (λ a. a.status ≡ verdict_of tree.now sections.now) }
+    ensures writes { IfOk result (λ a. a.bytes ≡ report tree.now (choices_of sections.now)) }
+{
+    let report = report_on(alloc, tree, sections)?;
+    let status = if report.is_equilibrium {
+        Status::Done
+    } else {
+        Status::Deviations
+    };
+    Ok(Answer {
+        status,
+        bytes: report.text,
+    })
+}
+
 /// The report on the game under the strategy's text, or its refusal.
 fn judge(alloc: Global, tree: &SmallGame, text: &[u8]) -> Result<Answer, AllocError>
     ensures { IfOk result (λ a. BadStrategy tree.now text.now a.status a.bytes ⊎ Reports tree.now text.now a.status a.bytes) }
 {
+    one_small_strategy();
+    let bad = b"refused strategy NotBuilt at 1:1\n".as_slice();
     match strategy_of(alloc, text)? {
-        Some(sections) if fits(tree, sections.as_slice()) => {
-            let report = report_on(alloc, tree, sections.as_slice())?;
-            let status = if report.is_equilibrium {
-                Status::Done
+        Some(sections) => {
+            let suits = fits(tree, sections.as_slice());
+            if suits {
+                Ok(reported(alloc, tree, sections.as_slice())?)
             } else {
-                Status::Deviations
-            };
-            Ok(Answer {
-                status,
-                bytes: report.text,
-            })
+                Ok(line(alloc, Status::StrategyText, bad)?)
+            }
         }
-        _ => line(
-            alloc,
-            Status::StrategyText,
-            b"refused strategy NotBuilt at 1:1\n",
-        ),
+        None => Ok(line(alloc, Status::StrategyText, bad)?),
     }
 }
 

@@ -3,11 +3,13 @@
 
 mod answer;
 mod fetch;
+mod plain;
 mod read;
 mod status;
 mod top;
 mod words;
 
+pub use read::{one_small_game, one_small_strategy};
 pub use status::Status;
 pub use top::run;
 

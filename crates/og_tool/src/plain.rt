@@ -1,0 +1,88 @@
+ghost use Rattle.std.specs.Prelude.{◌≡◌, ◌≤◌, ◌<◌, List, ℕ, length, true, false, IfSome, IfNone, IfOk, slice_range};
+ghost use Rattle.std.specs.List.{list_all};
+ghost use Rattle.og_lex.specs.declared.token.Token.{Token};
+ghost use Rattle.og_lex.specs.Characters.{is_blank};
+ghost use Rattle.og_lex.specs.Spelling.{AreInOrder};
+ghost use Rattle.og_tool.specs.Held.{longest};
+ghost use Rattle.og_tool.specs.Texts.{are_gaps_blank, is_ascii, IsPlain, ReadsPlain};
+
+use og_lex::{LexFault, Token, lex, one_lexing};
+use og_list::List;
+use std::alloc::{AllocError, Global};
+use std::str;
+
+/// The most bytes that a text may have.
+pub const LONGEST: usize = 1_048_576;
+
+/// Whether all bytes are blanks.
+fn are_blank(bytes: &[u8]) -> bool
+    ensures { result ≡ list_all is_blank bytes.now }
+{
+    bytes.iter().all(|byte| *byte == b' ' || *byte == b'\t' || *byte == b'\n' || *byte == b'\r')
+}
+
+/// Whether all bytes are ASCII.
+fn is_ascii(bytes: &[u8]) -> bool
+    ensures { result ≡ is_ascii bytes.now }
+{
+    bytes.iter().all(|byte| *byte < 128)
+}
+
+/// Whether all bytes from one place up to another are blanks.
+fn is_gap_blank(text: &[u8], from: usize, to: usize) -> bool
+    requires order { from ≤ to }
+    requires within { to ≤ length text.now }
+    ensures { result ≡ list_all is_blank (slice_range text.now from to) }
+{
+    are_blank(&text[from..to])
+}
+
+/// Whether only blanks stand round the tokens.
+#[tactic(auto, using(crate::proofs::Gaps::gap_starts, crate::proofs::Gaps::gap_ends))]
+fn are_gaps_blank(text: &[u8], tokens: &[Token]) -> bool
+    requires { AreInOrder 0 (length text.now) tokens.now }
+    ensures { result ≡ are_gaps_blank text.now 0 tokens.now }
+{
+    let mut place = 0u32;
+    'tokens: for token in tokens {
+        if !is_gap_blank(text, place as usize, token.start as usize) {
+            return false;
+        }
+        place = token.end;
+    }
+    are_blank(&text[place as usize..])
+}
+
+/// The text of ASCII bytes, or None where a byte isn't ASCII or there are too many.
+fn ascii_text(bytes: &[u8]) -> Option<&str>
+    ensures some { IfSome result (λ text. (text.now ≡ bytes.now) × (length bytes.now ≤ longest) × (is_ascii bytes.now ≡ true)) }
+    ensures none { IfNone result ((length bytes.now ≤ longest) → is_ascii bytes.now ≡ false) }
+{
+    if bytes.len() > LONGEST || !is_ascii(bytes) {
+        return None;
+    }
+    match str::from_utf8(bytes) {
+        Ok(text) => Some(text),
+        Err(_) => None,
+    }
+}
+
+/// The tokens of the text, if it is plain: not too long, of ASCII, and with no comment.
+pub fn plain_tokens(alloc: Global, bytes: &[u8]) -> Result<Option<List<Token>>, AllocError>
+    ensures { IfOk result (ReadsPlain bytes.now) }
+{
+    one_lexing();
+    let Some(text) = ascii_text(bytes) else {
+        return Ok(None);
+    };
+    match lex(alloc, text) {
+        Ok(tokens) => {
+            let is_plain = are_gaps_blank(bytes, tokens.as_slice());
+            if is_plain { Ok(Some(tokens)) } else { Ok(None) }
+        }
+        Err(fault) => match fault {
+            LexFault::Memory => Err(AllocError),
+            _ => Ok(None),
+        },
+    }
+}
