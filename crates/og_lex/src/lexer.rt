@@ -1,5 +1,4 @@
-ghost use Rattle.std.specs.Prelude.{◌≡◌, ◌≢◌, ◌≤◌, ◌⊎◌, length, IfErr, IfOk, MatchResult, OnOk};
-ghost use Rattle.std.specs.List.{AllByRecursion};
+ghost use Rattle.std.specs.Prelude.{All, ◌≡◌, ◌≢◌, ◌≤◌, ◌⊎◌, length, IfErr, IfOk, MatchResult, OnOk};
 ghost use Rattle.og_lex.specs.Spelling.{AreInOrder, IsTokenOf, Lexed};
 ghost use Rattle.og_lex.specs.Reading.{tokens, with_token_of};
 
@@ -27,7 +26,7 @@ pub fn lex(alloc: Global, text: &str) -> Result<List<Token>, LexFault>
 
     // Where the tokens stand, and that the text between the places of each one writes its kind.
     ensures order { IfOk result (AreInOrder 0 (length text.now)) }
-    ensures each { IfOk result (AllByRecursion (IsTokenOf text.now)) }
+    ensures each { IfOk result (All (IsTokenOf text.now)) }
 {
     read(alloc, text)
 }
