@@ -27,8 +27,8 @@ Shows place cs (Err fault) = FaultAt place cs fault
 head-same : (c d : ℕ) (cs ds : List ℕ) → c ∷ cs ≡ d ∷ ds → c ≡ d
 head-same c d cs ds e = cc
 
-blank-shown : (place c : ℕ) (cs : List ℕ) → is_blank c ≡ true → IsFound None (c ∷ cs) cs
-blank-shown place c cs b = record { front = c ∷ []; whole = refl; some = λ e. cc; stands = inl (c, refl, b) }
+blank-shown : (c : ℕ) (cs : List ℕ) → is_blank c ≡ true → IsFound None (c ∷ cs) cs
+blank-shown c cs b = record { front = c ∷ []; whole = refl; some = λ e. cc; stands = inl (c, refl, b) }
 
 comment-shown : (cs inside : List ℕ) → strip (codes "//") cs ≡ Some inside → IsFound None cs (behind is_in_comment inside)
 comment-shown cs inside e =
@@ -70,7 +70,7 @@ pub piece-shown : (place c : ℕ) (cs : List ℕ) → Shows place (c ∷ cs) (pi
 unfolding piece_at
 piece-shown place c cs =
     by_test (Shows place (c ∷ cs)) (is_blank c) (Ok (None, cs)) (or_comment (strip (codes "//") (c ∷ cs)) (with_kind (token_at place (c ∷ cs))))
-    (λ b. blank-shown place c cs b)
+    (λ b. blank-shown c cs b)
     (λ b. commented place c cs b (strip (codes "//") (c ∷ cs)) refl)
 
 piece-none : (place : ℕ) (rest : List ℕ) (what : Option Kind) → piece_at place [] ≡ Ok (what, rest) → ⊥

@@ -1,7 +1,7 @@
 -- Where the tokens of a text stand in it.
-use Rattle.std.proofs.Common.{◌≡◌, ℕ, ◌+◌, ◌-◌, ◌<◌, ◌≤◌, true, List, [], ◌∷◌, ◌++◌, length, take, drop, refl, sym, ap, ◌∙◌, subst, arith, append_assoc, length-append}
+use Rattle.std.proofs.Common.{◌≡◌, ℕ, zero, suc, ◌+◌, ◌-◌, ◌<◌, ◌≤◌, true, List, [], ◌∷◌, ◌++◌, length, take, drop, refl, sym, ap, ◌∙◌, subst, arith, append_assoc, length-append}
 use Rattle.std.specs.Prelude.{Option, Some, None, Result, Ok, Err, IfOk, encode_utf8_all, ◌&&◌}
-use Rattle.std.specs.List.{AllByRecursion}
+use Rattle.std.specs.List.{All, AllByRecursion}
 use Rattle.std.specs.Str.{IsUtf8, IsCharBoundary}
 use Rattle.std.proofs.Math.Seq.{take-append_seam, drop-append_seam}
 use Rattle.std.proofs.lemmas.Str.{encodes-chars, scalars-chars, encodes-append, IsCharBoundary-at_seam}
@@ -96,8 +96,15 @@ order-from text (Ok ts) u l =
     let end : 0 + byte_len (written l.pieces) ≡ length text = omega (arith, ap byte_len l.whole, byte_len-chars text u) in
     subst (AreInOrder 0 (length text)) (sym l.tokens) (in-order l.pieces [] 0 (length text) l.each end)
 
-pub each-from : (text : List ℕ) (r : Result (List Token) LexFault) → IsUtf8 text → Lexed text r → IfOk r (AllByRecursion (IsTokenOf text))
+-- what holds of each element holds of each index
+by-index : {X : Type 0} (P : X → Type 0) (xs : List X) → AllByRecursion P xs → All P xs
+by-index P [] h k d l = absurd (omega arith)
+by-index P (x ∷ xs) h zero d l = h.0
+by-index P (x ∷ xs) h (suc k) d l = by-index P xs h.1 k d (omega arith)
+
+pub each-from : (text : List ℕ) (r : Result (List Token) LexFault) → IsUtf8 text → Lexed text r → IfOk r (All (IsTokenOf text))
 each-from text (Err fault) u l = tt
 each-from text (Ok ts) u l =
     let all = each-written l.pieces text [] l.each (sym (encodes-chars text u) ∙ ap encode_utf8_all l.whole) (ap scalars (sym l.whole) ∙ scalars-chars text u) in
-    subst (AllByRecursion (IsTokenOf text)) (sym l.tokens) (subst (λ n. AllByRecursion (IsTokenOf text) (tokens_of n l.pieces)) no-bytes all)
+    let here : AllByRecursion (IsTokenOf text) ts = subst (AllByRecursion (IsTokenOf text)) (sym l.tokens) (subst (λ n. AllByRecursion (IsTokenOf text) (tokens_of n l.pieces)) no-bytes all) in
+    by-index (IsTokenOf text) ts here

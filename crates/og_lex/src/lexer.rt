@@ -1,5 +1,4 @@
-ghost use Rattle.std.specs.Prelude.{◌≡◌, ◌≢◌, ◌≤◌, ◌⊎◌, length, IfErr, IfOk, MatchResult, OnOk};
-ghost use Rattle.std.specs.List.{AllByRecursion};
+ghost use Rattle.std.specs.Prelude.{All, ◌≡◌, ◌≢◌, ◌≤◌, ◌⊎◌, length, IfErr, IfOk, MatchResult, OnOk};
 ghost use Rattle.og_lex.specs.Spelling.{AreInOrder, IsTokenOf, Lexed};
 ghost use Rattle.og_lex.specs.Reading.{tokens, with_token_of};
 
@@ -12,13 +11,22 @@ use std::alloc::Global;
 /// The length in bytes that a text has at most.
 pub const MAX_TEXT: usize = 1_048_576;
 
-/// The tokens of the text, or the first place at which no token starts.
+/// The tokens of the text, in order. Blanks and comments stand between them: `a // b` has the one
+/// token `a`. At each place the longest token that begins there is taken, so `-->` is `-` and `->`.
+///
+/// Refuses a text in which a place comes where no token, blank or comment starts, and tells the first
+/// such place and why. It asks for memory only for the list of tokens.
 pub fn lex(alloc: Global, text: &str) -> Result<List<Token>, LexFault>
     requires { length text.now ≤ MAX_TEXT }
+    // By the definition of tokens, whatever reads them.
     ensures lexed { Lexed text.now result }
+
+    // The same as a value.
     ensures exact { (result ≡ Err LexFault.Memory) ⊎ (result ≡ tokens text.now) }
+
+    // Where the tokens stand, and that the text between the places of each one writes its kind.
     ensures order { IfOk result (AreInOrder 0 (length text.now)) }
-    ensures each { IfOk result (AllByRecursion (IsTokenOf text.now)) }
+    ensures each { IfOk result (All (IsTokenOf text.now)) }
 {
     read(alloc, text)
 }

@@ -22,6 +22,28 @@ fn shown(alloc: Global, text: &str) -> Result<String, Fail> {
     Ok(out)
 }
 
+/// The part of the text that each token is.
+fn parts(alloc: Global, text: &str) -> Result<String, Fail> {
+    let mut out = String::new(alloc);
+    if text.len() > MAX_TEXT {
+        return Ok(out);
+    }
+    let tokens = lex(alloc, text).ok().ok_or("tokens")?;
+    for token in tokens.as_slice() {
+        out.push_str(token.text(text))?;
+        out.push_str("|")?;
+    }
+    Ok(out)
+}
+
+#[test]
+fn parts_of_a_text(rt: HostRuntime) -> Result<(), Fail> {
+    let text = "bid_\u{e9}->\"a b\"// x\n _y 007 :---:";
+    let want = "bid_\u{e9}|->|\"a b\"|_y|007|:---:|";
+    assert_eq!(rt; parts(rt.alloc(), text)?.as_str(), want);
+    Ok(())
+}
+
 #[test]
 fn texts_with_tokens(rt: HostRuntime) -> Result<(), Fail> {
     let cases = [

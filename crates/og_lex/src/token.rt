@@ -1,4 +1,4 @@
-ghost use Rattle.std.specs.Prelude.{◌≡◌, IsTrue};
+ghost use Rattle.std.specs.Prelude.{◌≡◌, IsTrue, slice_range};
 ghost use Rattle.std.specs.List.{list_all};
 ghost use Rattle.og_lex.specs.Tables.{word_text, mark_text};
 ghost use Rattle.og_lex.specs.Characters.{is_ascii_char};
@@ -28,6 +28,18 @@ pub struct Token {
     pub kind: Kind,
     pub start: u32,
     pub end: u32,
+}
+
+impl Token {
+    ghost use Rattle.og_lex.specs.Spelling.{IsTokenOf};
+
+    /// The token's own part of the text that it was read from.
+    pub fn text(self, text: &str) -> &str
+        requires { IsTokenOf text.now self }
+        ensures { result.now ≡ slice_range text.now self.start self.end }
+    {
+        &text[self.start as usize..self.end as usize]
+    }
 }
 
 /// The reserved words. `among`, `branch` and `version` are kept for later versions of the language.
