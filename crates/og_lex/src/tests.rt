@@ -44,6 +44,38 @@ fn parts_of_a_text(rt: HostRuntime) -> Result<(), Fail> {
     Ok(())
 }
 
+/// Three colons and three hyphens in each of their orders: only a colon, three hyphens and a colon side
+/// by side are a separator.
+#[test]
+fn colons_and_hyphens(rt: HostRuntime) -> Result<(), Fail> {
+    let cases = [
+        ("---:::", "-|-|-|:|:|:|"),
+        ("--:-::", "-|-|:|-|:|:|"),
+        ("--::-:", "-|-|:|:|-|:|"),
+        ("--:::-", "-|-|:|:|:|-|"),
+        ("-:--::", "-|:|-|-|:|:|"),
+        ("-:-:-:", "-|:|-|:|-|:|"),
+        ("-:-::-", "-|:|-|:|:|-|"),
+        ("-::--:", "-|:|:|-|-|:|"),
+        ("-::-:-", "-|:|:|-|:|-|"),
+        ("-:::--", "-|:|:|:|-|-|"),
+        (":---::", ":---:|:|"),
+        (":--:-:", ":|-|-|:|-|:|"),
+        (":--::-", ":|-|-|:|:|-|"),
+        (":-:--:", ":|-|:|-|-|:|"),
+        (":-:-:-", ":|-|:|-|:|-|"),
+        (":-::--", ":|-|:|:|-|-|"),
+        ("::---:", ":|:---:|"),
+        ("::--:-", ":|:|-|-|:|-|"),
+        ("::-:--", ":|:|-|:|-|-|"),
+        (":::---", ":|:|:|-|-|-|"),
+    ];
+    for (text, want) in cases {
+        assert_eq!(rt; parts(rt.alloc(), text)?.as_str(), want, "{text}");
+    }
+    Ok(())
+}
+
 #[test]
 fn texts_with_tokens(rt: HostRuntime) -> Result<(), Fail> {
     let cases = [

@@ -80,27 +80,128 @@ fn calm<'a>(game: &'a str, strategy: &'a str, written: &'a str, status: Status) 
     }
 }
 
-/// Both texts are accepted, or one is refused.
+const BAD_GAME: &str = "refused game NotBuilt at 1:1\n";
+
+const BAD_STRATEGY: &str = "refused strategy NotBuilt at 1:1\n";
+
+/// The prisoner's dilemma with every field written out.
+const PRISONERS: &str = "type Move = { Cooperate, Defect };
+game main = block { inputs : ; feedback : ; :-----:
+  inputs : ; feedback : ;
+  operation : dependentDecision \"player1\" [] Move ; outputs : x ;
+  returns : table (x : Move, y : Move) { (Cooperate, Cooperate) -> 3; (Cooperate, Defect) -> 0;
+    (Defect, Cooperate) -> 5; (Defect, Defect) -> 1; } ;
+  inputs : ; feedback : ;
+  operation : dependentDecision \"player2\" [] Move ; outputs : y ;
+  returns : table (y : Move, x : Move) { (Cooperate, Cooperate) -> 3; (Cooperate, Defect) -> 0;
+    (Defect, Cooperate) -> 5; (Defect, Defect) -> 1; } ;
+:-----: outputs : ; returns : ; };";
+
+const COOPERATE: &str =
+    "strategy \"player1\" { () -> Cooperate; } strategy \"player2\" { () -> Cooperate; }";
+
+const DEFECT: &str =
+    "strategy \"player1\" { () -> Defect; } strategy \"player2\" { () -> Defect; }";
+
+/// One agent who decides twice, each time paid by the other choice too.
+const TWICE: &str = "type A = { L, R }; game main = block { :---:
+  operation : dependentDecision \"a\" [] A ; outputs : x ; returns : table (y : A) { (L) -> 0; (R) -> 4; } ;
+  operation : dependentDecision \"a\" [] A ; outputs : y ; returns : table (y : A) { (L) -> 3; (R) -> 1; } ;
+:---: };";
+
+/// Reports on games that are accepted.
 #[test]
-fn texts(rt: HostRuntime) -> Result<(), Fail> {
-    let bad_game = "refused game NotBuilt at 1:1\n";
-    let bad_strategy = "refused strategy NotBuilt at 1:1\n";
-    let pennies =
-        "type Side = { Heads, Tails };\ngame main = block { :---: operation : dependentDecision \"even\" [] Side ; outputs : x ; returns : if x == x then 1 else -1 end ; :---: };\n";
+fn reports(rt: HostRuntime) -> Result<(), Fail> {
     let cases = [
         calm(EMPTY, "", "equilibrium\n", Status::Done),
-        calm(pennies, "", bad_game, Status::GameText),
-        calm("", "", bad_game, Status::GameText),
+        calm(EMPTY, " \n", "equilibrium\n", Status::Done),
         calm(
-            EMPTY,
-            "strategy \"a\" { }",
-            bad_strategy,
-            Status::StrategyText,
+            PRISONERS,
+            COOPERATE,
+            "deviations 2\nvalue \"player1\" = 3\nvalue \"player2\" = 3\ndecision 1 \"player1\" at () play Defect gain 2\ndecision 2 \"player2\" at () play Defect gain 2\n",
+            Status::Deviations,
+        ),
+        calm(
+            PRISONERS,
+            DEFECT,
+            "equilibrium\nvalue \"player1\" = 1\nvalue \"player2\" = 1\n",
+            Status::Done,
+        ),
+        // At y the action R moves 3 down to 1 in its own table and 0 up to 4 in the other.
+        calm(
+            TWICE,
+            "strategy \"a\" { () -> L; } strategy \"a\" { () -> L; }",
+            "deviations 1\nvalue \"a\" = 3\ndecision 2 \"a\" at () play R gain 2\n",
+            Status::Deviations,
         ),
     ];
     for case in &cases {
         answers(&rt, rt.alloc(), case)?;
     }
+    Ok(())
+}
+
+/// Games and strategies that are refused.
+#[test]
+fn refused_texts(rt: HostRuntime) -> Result<(), Fail> {
+    let pennies = "type Side = { Heads, Tails }; game main = block { :-----:
+  operation : dependentDecision \"even\" [] Side ; outputs : x ; returns : if x == y then 1 else -1 end ;
+  operation : dependentDecision \"odd\" [] Side ; outputs : y ; returns : if x == y then -1 else 1 end ;
+:-----: };";
+    let games = [
+        "",
+        pennies,
+        "// a comment\ngame main = block { :---: :---: };",
+        "game main = block { :--: :---: };",
+        "game main = block { :---: :---: }",
+        "game main = block { :---: :---: }; ;",
+        "game other = block { :---: :---: };",
+        "game main = block { :---: :---: }; \u{e9}",
+        "type A = { main }; game main = block { :---: :---: };",
+        "type A = { B, B }; game main = block { :---: :---: };",
+        "type A = { B, C, D, E, F, G, H, I, J }; game main = block { :---: :---: };",
+        "type A = { B }; game main = block { :---: operation : dependentDecision \"a\" [] A ; outputs : x ; returns : table (x : A) { (B) -> 9223372036854775808; } ; :---: };",
+        "type A = { B }; game main = block { :---: operation : dependentDecision \"a\" [] C ; outputs : x ; returns : table (x : A) { (B) -> 1; } ; :---: };",
+        "type A = { B, C }; game main = block { :---: operation : dependentDecision \"a\" [] A ; outputs : x ; returns : table (x : A) { (B) -> 1; } ; :---: };",
+        "type A = { B }; game main = block { :---: operation : dependentDecision \"a\" [] A ; outputs : x ; returns : table (y : A) { (B) -> 1; } ; :---: };",
+    ];
+    for game in &games {
+        answers(&rt, rt.alloc(), &calm(game, "", BAD_GAME, Status::GameText))?;
+    }
+    let strategies = [
+        "",
+        "strategy \"player1\" { () -> Cooperate; }",
+        "strategy \"player2\" { () -> Cooperate; } strategy \"player1\" { () -> Cooperate; }",
+        "strategy \"player1\" { () -> Cooperate; } strategy \"player2\" { () -> Other; }",
+        "strategy \"player1\" { () -> Cooperate; } strategy \"player2\" { () -> Cooperate; } // both",
+    ];
+    for strategy in &strategies {
+        let case = calm(PRISONERS, strategy, BAD_STRATEGY, Status::StrategyText);
+        answers(&rt, rt.alloc(), &case)?;
+    }
+    let case = calm(
+        EMPTY,
+        "strategy \"a\" { }",
+        BAD_STRATEGY,
+        Status::StrategyText,
+    );
+    answers(&rt, rt.alloc(), &case)?;
+    Ok(())
+}
+
+/// A text of the greatest length is read, and one that is a byte longer isn't.
+#[test]
+fn lengths(rt: HostRuntime) -> Result<(), Fail> {
+    let alloc = rt.alloc();
+    let mut text = String::from_str(alloc, EMPTY)?;
+    for _ in text.len()..1_048_576 {
+        text.push(' ')?;
+    }
+    let case = calm(text.as_str(), "", "equilibrium\n", Status::Done);
+    answers(&rt, alloc, &case)?;
+    text.push(' ')?;
+    let case = calm(text.as_str(), "", BAD_GAME, Status::GameText);
+    answers(&rt, alloc, &case)?;
     Ok(())
 }
 
