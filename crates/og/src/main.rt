@@ -8,6 +8,7 @@ use og_io::{HostFiles, HostSink};
 use og_steps::Steps;
 use og_tool::{Status, run};
 use std::alloc::Global;
+use std::io::ErrorKind;
 use std::marker::Brand;
 use std::process::ExitCode;
 use std::sync::ledger::{Blank, Ledger};
@@ -32,8 +33,14 @@ fn counted<L: Ledger>(alloc: Global, rt: &HostRuntime, words: &[String], blank: 
 }
 
 fn main(rt: HostRuntime) -> ExitCode {
-    // Where the host can't tell the words, they are no form.
-    let words = words(&rt).unwrap_or(Vec::new(rt.alloc()));
+    let words = match words(&rt) {
+        Ok(words) => words,
+        Err(error) if error.kind() == ErrorKind::OutOfMemory => {
+            return ExitCode::from(Status::Memory.code());
+        }
+        // Where the host can't tell the words, they are no form.
+        Err(_) => Vec::new(rt.alloc()),
+    };
     let status = counted::<Brand>(rt.alloc(), &rt, words.as_slice(), Blank::new(1));
     ExitCode::from(status.code())
 }

@@ -3,3 +3,4 @@ pub mod Long
 pub mod Gaps
 pub mod PlainTexts
 pub mod Trees
+pub mod Single
