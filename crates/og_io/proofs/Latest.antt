@@ -1,5 +1,5 @@
 -- The last word on a name or a call, over one more word.
-use Rattle.std.proofs.Common.{◌≡◌, ℕ, ◌+◌, ◌<◌, List, [], ◌∷◌, ◌++◌, take, get_or, length, Bool, Option, Some, None, cond, refl, sym, ◌∙◌, ap, eqb, eq-eqb, true, false}
+use Rattle.std.proofs.Common.{◌≡◌, ℕ, ◌+◌, ◌<◌, List, [], ◌∷◌, ◌++◌, take, get_or, length, Option, Some, None, cond, refl, sym, ◌∙◌, ap, eqb, eq-eqb, true, false}
 use Rattle.std.proofs.lemmas.Bool.{false_from_ne_true, eqb-true}
 use Rattle.std.specs.Prelude.{bytes_eq}
 use Rattle.std.proofs.lemmas.List.{take_more}

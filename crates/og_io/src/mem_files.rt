@@ -2,7 +2,7 @@ ghost use Rattle.std.specs.Prelude.{◌≡◌, ℕ, List, [], ◌∷◌, ◌++�
 ghost use Rattle.std.specs.Option.{option_copied};
 ghost use Rattle.og_io.specs.Outside.{CountsFaults, Loads, OnlyMoves};
 ghost use Rattle.og_io.specs.Names.{times};
-ghost use Rattle.og_io.specs.Fakes.{bytes_under, next_call, is_told, Answers};
+ghost use Rattle.og_io.specs.Fakes.{bytes_under, next_call, is_told, Answers, Notes};
 
 use crate::names::{forget, note};
 use crate::{Files, LoadFault};
@@ -112,7 +112,10 @@ impl Files for MemFiles {
         ensures moved { OnlyMoves name.now (times self.old.failed) (times self.new.failed) }
         ensures counted { CountsFaults name.now (times self.old.failed) (times self.new.failed) result }
         ensures bytes { Loads (bytes_under self.old.files name.now) cap result }
+        ensures files { self.new.files ≡ self.old.files }
+        ensures failing { self.new.failing ≡ self.old.failing }
         ensures number { self.new.calls ≡ next_call self.old.calls }
+        ensures failed { Notes name.now self.old.failed self.new.failed result }
         ensures answers { Answers (is_told self.old.failing self.new.calls) (bytes_under self.old.files name.now) cap result }
     {
         self.calls = self.calls.saturating_add(1);

@@ -1,6 +1,6 @@
 ghost use Rattle.std.specs.Prelude.{◌≡◌, ℕ, ◌≤◌, ◌+◌, ◌-◌, [], ◌∷◌, ◌++◌, Some, None, OnOk, OnErr, length, vec_len, vec_capacity};
 ghost use Rattle.og_io.specs.Outside.{Puts};
-ghost use Rattle.og_io.specs.Fakes.{fails_after, next_call, Takes};
+ghost use Rattle.og_io.specs.Fakes.{fails_after, next_call, Counts, Takes};
 
 use crate::{PutFault, Sink};
 use og_list::List;
@@ -44,6 +44,7 @@ impl MemSink {
     /// Makes the spare room at least so large. A put no longer than the spare room takes no memory.
     pub fn reserve(&mut self, bytes: usize) -> Result<(), AllocError>
         ensures room { OnOk result (bytes ≤ self.new.room) }
+        ensures kept { self.old.room ≤ self.new.room }
         ensures written { self.new.written ≡ self.old.written }
         ensures failing { self.new.failing ≡ self.old.failing }
         ensures calls { self.new.calls ≡ self.old.calls }
@@ -91,6 +92,8 @@ impl Sink for MemSink {
         ensures grows { Puts bytes.now (Some self.old.written) self.old.faults (Some self.new.written) self.new.faults result }
         ensures number { self.new.calls ≡ next_call self.old.calls }
         ensures failing { self.new.failing ≡ self.old.failing }
+        ensures faults { Counts self.old.faults self.new.faults result }
+        ensures room { length self.old.written + self.old.room ≤ length self.new.written + self.new.room }
         ensures takes { Takes self.old self.new bytes.now result }
     {
         self.calls = self.calls.saturating_add(1);
