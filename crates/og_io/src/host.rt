@@ -6,9 +6,8 @@ use crate::{Files, LoadFault, PutFault, Sink};
 use og_list::{List, Text};
 use std::alloc::Global;
 use std::fs::File;
-use std::io;
 use std::io::{ErrorKind, Read, Write};
-use std::rt;
+use std::{io, rt};
 
 /// The host's files. They tell no bytes.
 #[derive(Drop)]
@@ -38,7 +37,12 @@ fn fault_of(error: &io::Error) -> LoadFault {
 }
 
 /// Reads a file of the host, at most one byte more than `cap`.
-fn read_host<R: rt::Files>(rt: &R, alloc: Global, name: &str, cap: usize) -> Result<Vec<u8>, LoadFault>
+fn read_host<R: rt::Files>(
+    rt: &R,
+    alloc: Global,
+    name: &str,
+    cap: usize,
+) -> Result<Vec<u8>, LoadFault>
     ensures { IfOk result (λ bytes. length bytes.items ≤ cap) }
 {
     let file = match File::open(rt, name) {

@@ -1,4 +1,4 @@
-ghost use Rattle.std.specs.Prelude.{◌≡◌, ℕ, ◌≤◌, ◌+◌, ◌-◌, [], ◌∷◌, ◌++◌, Some, None, OnOk, OnErr, length, vec_len, vec_capacity};
+ghost use Rattle.std.specs.Prelude.{◌≡◌, ◌≢◌, ℕ, ◌≤◌, ◌+◌, ◌-◌, [], ◌∷◌, ◌++◌, Some, None, OnOk, OnErr, length, vec_len, vec_capacity};
 ghost use Rattle.og_io.specs.Outside.{Puts};
 ghost use Rattle.og_io.specs.Fakes.{fails_after, next_call, Counts, Takes};
 
@@ -55,8 +55,11 @@ impl MemSink {
 
     /// The put with this number, counted from 1, takes the first `after` bytes, or all if there are
     /// fewer, and fails. Where a number is told twice, the later word counts.
+    #[tactic(auto, using(crate::proofs::Latest::fails_after_latest, crate::proofs::Latest::fails_after_others))]
     pub fn fail(&mut self, call: u32, after: usize) -> Result<(), AllocError>
         ensures ok { OnOk result (self.new ≡ record self.old { failing = self.old.failing ++ (call, after) ∷ [] }) }
+        ensures told { OnOk result (fails_after self.new.failing call ≡ Some after) }
+        ensures others { OnOk result ((other : ℕ) → other ≢ call → fails_after self.new.failing other ≡ fails_after self.old.failing other) }
         ensures refused { OnErr result (self.new ≡ self.old) }
     {
         self.failing.add((call, after))
@@ -98,7 +101,10 @@ impl Sink for MemSink {
     {
         self.calls = self.calls.saturating_add(1);
         match failing_after(self.failing.as_slice(), self.calls) {
-            None => self.written.extend_from_slice(bytes).map_err(|_| PutFault::Memory),
+            None => self
+                .written
+                .extend_from_slice(bytes)
+                .map_err(|_| PutFault::Memory),
             Some(after) => {
                 let taken = &bytes[..after.min(bytes.len())];
                 if self.written.extend_from_slice(taken).is_err() {
