@@ -40,6 +40,13 @@ Answers told held cap (Err load.Failed) = (told ≡ true) ⊎ (held ≡ None)
 Answers told held cap (Err load.Long) = (told ≡ false) × IsSomeAnd held (λ bytes. cap < length bytes)
 Answers told held cap (Err load.Memory) = ⊤
 
+-- The names whose loads failed: one more where this load failed, and else the same.
+abbrev pub Notes : List ℕ → List (List ℕ) → List (List ℕ) → Result (Vec ℕ Global) LoadFault → Type 0
+Notes name before now (Ok _) = now ≡ before
+Notes name before now (Err load.Failed) = now ≡ before ++ name ∷ []
+Notes name before now (Err load.Long) = now ≡ before
+Notes name before now (Err load.Memory) = now ≡ before
+
 -- A sink in memory: what is written, how much more fits without memory, which calls are to fail and
 -- after how many bytes, how many calls were made, and how many failed.
 pub record Tape : Type 0 where
@@ -53,6 +60,12 @@ pub record Tape : Type 0 where
 abbrev pub fails_after : List (ℕ × ℕ) → ℕ → Option ℕ
 fails_after [] call = None
 fails_after (told ∷ more) call = later (fails_after more call) (if told.0 == call then Some told.1 else None)
+
+-- How many puts failed: one more where this put failed, up to 2 ^ 64 - 1, and else as many.
+abbrev pub Counts : ℕ → ℕ → Result (Unit {0}) PutFault → Type 0
+Counts before now (Ok _) = now ≡ before
+Counts before now (Err put.Failed) = now ≡ min (before + 1) (2 ^ 64 - 1)
+Counts before now (Err put.Memory) = now ≡ before
 
 -- What a put into memory answers, and why.
 abbrev pub Takes : Tape → Tape → List ℕ → Result (Unit {0}) PutFault → Type 0

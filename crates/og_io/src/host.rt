@@ -1,14 +1,16 @@
-ghost use Rattle.std.specs.Prelude.{◌≡◌, ℕ, List, None, [], ◌≤◌, length, IfOk, vec_len};
+ghost use Rattle.std.specs.Prelude.{◌≡◌, ℕ, List, None, [], ◌≤◌, length, IfOk, IfErr, vec_len};
 ghost use Rattle.og_io.specs.Names.{times};
+ghost use Rattle.og_io.specs.Outside.{Puts};
+ghost use Rattle.og_io.specs.Fakes.{Counts};
+ghost use Rattle.og_io.specs.declared.faults.PutFault.TheVariants as put;
 
 use crate::names::{forget, note};
 use crate::{Files, LoadFault, PutFault, Sink};
 use og_list::{List, Text};
 use std::alloc::Global;
 use std::fs::File;
-use std::io;
 use std::io::{ErrorKind, Read, Write};
-use std::rt;
+use std::{io, rt};
 
 /// The host's files. They tell no bytes.
 #[derive(Drop)]
@@ -38,7 +40,12 @@ fn fault_of(error: &io::Error) -> LoadFault {
 }
 
 /// Reads a file of the host, at most one byte more than `cap`.
-fn read_host<R: rt::Files>(rt: &R, alloc: Global, name: &str, cap: usize) -> Result<Vec<u8>, LoadFault>
+fn read_host<R: rt::Files>(
+    rt: &R,
+    alloc: Global,
+    name: &str,
+    cap: usize,
+) -> Result<Vec<u8>, LoadFault>
     ensures { IfOk result (λ bytes. length bytes.items ≤ cap) }
 {
     let file = match File::open(rt, name) {
@@ -94,7 +101,12 @@ impl<R: Print> Sink for HostSink<'_, R> {
 
     ghost faults = { λ s. s.faults };
 
-    fn put(&mut self, bytes: &[u8]) -> Result<(), PutFault> {
+    /// A write takes no memory, so each refusal is a failure.
+    fn put(&mut self, bytes: &[u8]) -> Result<(), PutFault>
+        ensures grows { Puts bytes.now None self.old.faults None self.new.faults result }
+        ensures faults { Counts self.old.faults self.new.faults result }
+        ensures failed { IfErr result (λ fault. fault ≡ put.Failed) }
+    {
         let mut writer = io::writer(self.rt);
         if writer.write_all(bytes).is_ok() && writer.flush().is_ok() {
             return Ok(());

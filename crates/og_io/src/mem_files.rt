@@ -1,8 +1,8 @@
-ghost use Rattle.std.specs.Prelude.{◌≡◌, ℕ, List, [], ◌∷◌, ◌++◌, ◌⊎◌, Option, Some, None, IsTrue, IfOk, OnOk, OnErr, length, map};
+ghost use Rattle.std.specs.Prelude.{◌≡◌, ◌≢◌, true, ℕ, List, [], ◌∷◌, ◌++◌, ◌⊎◌, Option, Some, None, IsTrue, IfOk, OnOk, OnErr, length, map};
 ghost use Rattle.std.specs.Option.{option_copied};
 ghost use Rattle.og_io.specs.Outside.{CountsFaults, Loads, OnlyMoves};
 ghost use Rattle.og_io.specs.Names.{times};
-ghost use Rattle.og_io.specs.Fakes.{bytes_under, next_call, is_told, Answers};
+ghost use Rattle.og_io.specs.Fakes.{bytes_under, next_call, is_told, Answers, Notes};
 
 use crate::names::{forget, note};
 use crate::{Files, LoadFault};
@@ -42,8 +42,11 @@ impl MemFiles {
     }
 
     /// Adds a file. It stands in place of an earlier one of the same name. A refusal changes nothing.
+    #[tactic(auto, using(crate::proofs::Latest::bytes_under_latest, crate::proofs::Latest::bytes_under_others))]
     pub fn add(&mut self, alloc: Global, name: &str, bytes: &[u8]) -> Result<(), AllocError>
         ensures ok { OnOk result (self.new ≡ record self.old { files = self.old.files ++ (name.now, bytes.now) ∷ [] }) }
+        ensures held { OnOk result (bytes_under self.new.files name.now ≡ Some bytes.now) }
+        ensures others { OnOk result ((other : List ℕ) → other ≢ name.now → bytes_under self.new.files other ≡ bytes_under self.old.files other) }
         ensures refused { OnErr result (self.new ≡ self.old) }
     {
         let name = Text::from(alloc, name)?;
@@ -53,8 +56,11 @@ impl MemFiles {
     }
 
     /// The load with this number, counted from 1, is to fail. A refusal changes nothing.
+    #[tactic(auto, using(crate::proofs::Latest::told_latest, crate::proofs::Latest::told_others))]
     pub fn fail(&mut self, call: u32) -> Result<(), AllocError>
         ensures ok { OnOk result (self.new ≡ record self.old { failing = self.old.failing ++ call ∷ [] }) }
+        ensures told { OnOk result (is_told self.new.failing call ≡ true) }
+        ensures others { OnOk result ((other : ℕ) → other ≢ call → is_told self.new.failing other ≡ is_told self.old.failing other) }
         ensures refused { OnErr result (self.new ≡ self.old) }
     {
         self.failing.add(call)
@@ -112,7 +118,10 @@ impl Files for MemFiles {
         ensures moved { OnlyMoves name.now (times self.old.failed) (times self.new.failed) }
         ensures counted { CountsFaults name.now (times self.old.failed) (times self.new.failed) result }
         ensures bytes { Loads (bytes_under self.old.files name.now) cap result }
+        ensures files { self.new.files ≡ self.old.files }
+        ensures failing { self.new.failing ≡ self.old.failing }
         ensures number { self.new.calls ≡ next_call self.old.calls }
+        ensures failed { Notes name.now self.old.failed self.new.failed result }
         ensures answers { Answers (is_told self.old.failing self.new.calls) (bytes_under self.old.files name.now) cap result }
     {
         self.calls = self.calls.saturating_add(1);

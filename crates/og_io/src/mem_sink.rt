@@ -1,6 +1,6 @@
-ghost use Rattle.std.specs.Prelude.{◌≡◌, ℕ, ◌≤◌, ◌+◌, ◌-◌, [], ◌∷◌, ◌++◌, Some, None, OnOk, OnErr, length, vec_len, vec_capacity};
+ghost use Rattle.std.specs.Prelude.{◌≡◌, ◌≢◌, ℕ, ◌≤◌, ◌+◌, ◌-◌, [], ◌∷◌, ◌++◌, Some, None, OnOk, OnErr, length, vec_len, vec_capacity};
 ghost use Rattle.og_io.specs.Outside.{Puts};
-ghost use Rattle.og_io.specs.Fakes.{fails_after, next_call, Takes};
+ghost use Rattle.og_io.specs.Fakes.{fails_after, next_call, Counts, Takes};
 
 use crate::{PutFault, Sink};
 use og_list::List;
@@ -44,6 +44,7 @@ impl MemSink {
     /// Makes the spare room at least so large. A put no longer than the spare room takes no memory.
     pub fn reserve(&mut self, bytes: usize) -> Result<(), AllocError>
         ensures room { OnOk result (bytes ≤ self.new.room) }
+        ensures kept { self.old.room ≤ self.new.room }
         ensures written { self.new.written ≡ self.old.written }
         ensures failing { self.new.failing ≡ self.old.failing }
         ensures calls { self.new.calls ≡ self.old.calls }
@@ -54,8 +55,11 @@ impl MemSink {
 
     /// The put with this number, counted from 1, takes the first `after` bytes, or all if there are
     /// fewer, and fails. Where a number is told twice, the later word counts.
+    #[tactic(auto, using(crate::proofs::Latest::fails_after_latest, crate::proofs::Latest::fails_after_others))]
     pub fn fail(&mut self, call: u32, after: usize) -> Result<(), AllocError>
         ensures ok { OnOk result (self.new ≡ record self.old { failing = self.old.failing ++ (call, after) ∷ [] }) }
+        ensures told { OnOk result (fails_after self.new.failing call ≡ Some after) }
+        ensures others { OnOk result ((other : ℕ) → other ≢ call → fails_after self.new.failing other ≡ fails_after self.old.failing other) }
         ensures refused { OnErr result (self.new ≡ self.old) }
     {
         self.failing.add((call, after))
@@ -91,11 +95,16 @@ impl Sink for MemSink {
         ensures grows { Puts bytes.now (Some self.old.written) self.old.faults (Some self.new.written) self.new.faults result }
         ensures number { self.new.calls ≡ next_call self.old.calls }
         ensures failing { self.new.failing ≡ self.old.failing }
+        ensures faults { Counts self.old.faults self.new.faults result }
+        ensures room { length self.old.written + self.old.room ≤ length self.new.written + self.new.room }
         ensures takes { Takes self.old self.new bytes.now result }
     {
         self.calls = self.calls.saturating_add(1);
         match failing_after(self.failing.as_slice(), self.calls) {
-            None => self.written.extend_from_slice(bytes).map_err(|_| PutFault::Memory),
+            None => self
+                .written
+                .extend_from_slice(bytes)
+                .map_err(|_| PutFault::Memory),
             Some(after) => {
                 let taken = &bytes[..after.min(bytes.len())];
                 if self.written.extend_from_slice(taken).is_err() {

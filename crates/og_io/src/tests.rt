@@ -56,12 +56,18 @@ fn files_of_the_host(rt: HostRuntime) -> Result<(), Fail> {
     let alloc = rt.alloc();
     fs::write(&rt, "og_io_host_test", b"held")?;
     let mut files = HostFiles::new(&rt, alloc);
-    let read = files.load(alloc, "og_io_host_test", 4).ok().ok_or("refused")?;
+    let read = files
+        .load(alloc, "og_io_host_test", 4)
+        .ok()
+        .ok_or("refused")?;
     let long = files.load(alloc, "og_io_host_test", 3).err();
     fs::remove_file(&rt, "og_io_host_test")?;
     assert_eq!(rt; read.as_slice(), b"held".as_slice());
     assert_eq!(rt; long, Some(LoadFault::Long));
-    assert_eq!(rt; files.load(alloc, "og_io_host_test", 4).err(), Some(LoadFault::Failed));
+    assert_eq!(rt;
+        files.load(alloc, "og_io_host_test", 4).err(),
+        Some(LoadFault::Failed)
+    );
     Ok(())
 }
 

@@ -3,7 +3,7 @@
 -- from a value to its parts.
 use mathlib.Core.Former.{Former, Count, none_left, one_more, Row, children}
 use Rattle.std.proofs.Common.{ℕ, ◌+◌, ◌≤◌, arith}
-use denote.Param.Nested.{deepest, weight}
+use denote.Param.Nested.{deepest}
 use denote.Param.Weighed.{Weighed, weight_is}
 
 pub deepest_more : {X : Type 0} (μ : X → ℕ) (n : Count) (v : Row X n) → deepest (λ x. μ x + 1) n v ≤ deepest μ n v + 1

@@ -1,4 +1,4 @@
-ghost use Rattle.std.specs.Prelude.{◌≡◌, ◌<◌, ◌↔◌, [], ◌∷◌, ◌++◌, length, slice_get, slice_set, IsTrue, MatchOption, IfErr, OnErr, OnOk, OnSome};
+ghost use Rattle.std.specs.Prelude.{◌≡◌, ◌<◌, ◌↔◌, [], ◌∷◌, ◌++◌, length, slice_get, slice_set, IsTrue, MatchOption, IfErr, OnErr, OnOk, OnSome, IsSome};
 ghost use Rattle.std.specs.Option.{option_copied};
 
 use std::alloc::{AllocError, Global};
@@ -68,6 +68,7 @@ impl<T> List<T> {
     pub fn get(&self, i: usize) -> Option<&T>
         ensures value { option_copied result ≡ slice_get self.now i }
         ensures within { OnSome result (i < length self.now) }
+        ensures there { IsSome result ↔ (i < length self.now) }
     {
         self.held.get(i)
     }

@@ -2,6 +2,7 @@ ghost use Rattle.std.specs.Prelude.{◌≡◌, IfOk};
 
 use super::*;
 use std::alloc::{AllocError, Global};
+use std::marker::Model;
 use std::test::Fail;
 
 /// A tree that reaches itself through a box and through a list.
@@ -51,6 +52,102 @@ fn copies_are_equal(rt: HostRuntime) -> Result<(), Fail> {
     let made = copy(&tree, alloc)?;
     let shown = format!(in alloc; "{made:?}")?;
     assert_eq!(rt; shown, format!(in alloc; "{tree:?}")?);
+    Ok(())
+}
+
+/// One level of an expression, over parts of any kind.
+#[derive(Debug, Drop)]
+enum LevelOf<E> {
+    Number(u8),
+    Not(Boxed<E>),
+    Sum(List<E>),
+}
+
+/// The expression that contracts see. No code makes one.
+#[derive(Debug, Drop)]
+struct Term {
+    node: LevelOf<Term>,
+}
+
+/// An expression that reaches itself through a box and through a list, and is seen through a model.
+#[derive(Debug, Drop)]
+struct Expr {
+    node: LevelOf<Expr>,
+    depth: u8,
+}
+
+impl Model for Expr {
+    ghost use Rattle.std.specs.Coded.{codes};
+    ghost use Rattle.og_list.specs.contracts.tests.Term as term;
+    ghost use Rattle.og_list.specs.declared.tests.Term.{Term, size-Term, roll-Term};
+
+    ghost Value = { Term };
+
+    ghost coded = { Prim.hlevel (codes, term.the_row.coded) };
+
+    ghost view = { λ e. roll-Term (record { node = e.node }) };
+
+    ghost size = { size-Term };
+
+    ghost use Rattle.std.proofs.Common.{arith};
+    ghost use Rattle.og_list.specs.Weights.{weight_more};
+    ghost use Rattle.og_list.specs.declared.tests.Expr.TheShapes.{weighed-Expr-node};
+    ghost use Rattle.og_list.specs.declared.tests.Term.TheViews.{size_roll-Term};
+
+    ghost size_decreases = { λ a h. omega (arith, size_roll-Term (record { node = a.node }), weight_more weighed-Expr-node size-Term a.node) };
+}
+
+#[cycle(expressions)]
+fn copy_expr(expr: &Expr, alloc: Global) -> Result<Expr, AllocError>
+    ensures { IfOk result (λ made. made ≡ expr.now) }
+{
+    let node = match &expr.node {
+        LevelOf::Number(number) => LevelOf::Number(*number),
+        LevelOf::Not(part) => {
+            let part = copy_expr(part.get(), alloc)?;
+            match Boxed::new(alloc, part) {
+                Ok(part) => LevelOf::Not(part),
+                Err(_) => return Err(AllocError),
+            }
+        }
+        LevelOf::Sum(parts) => LevelOf::Sum(copy_exprs(parts, alloc)?),
+    };
+    Ok(Expr {
+        node,
+        depth: expr.depth,
+    })
+}
+
+#[cycle(expressions)]
+fn copy_exprs(parts: &List<Expr>, alloc: Global) -> Result<List<Expr>, AllocError>
+    ensures { IfOk result (λ made. made ≡ parts.now) }
+{
+    let mut all = List::new(alloc);
+    'parts: for part in parts.as_slice() {
+        all.add(copy_expr(part, alloc)?)?;
+    }
+    Ok(all)
+}
+
+#[test]
+fn copies_of_expressions(rt: HostRuntime) -> Result<(), Fail> {
+    let alloc = rt.alloc();
+    let mut parts = List::new(alloc);
+    parts.add(Expr {
+        node: LevelOf::Number(3),
+        depth: 1,
+    })?;
+    let sum = Expr {
+        node: LevelOf::Sum(parts),
+        depth: 2,
+    };
+    let not = Expr {
+        node: LevelOf::Not(Boxed::new(alloc, sum).ok().ok_or("memory")?),
+        depth: 3,
+    };
+    let made = copy_expr(&not, alloc)?;
+    let shown = format!(in alloc; "{made:?}")?;
+    assert_eq!(rt; shown, format!(in alloc; "{not:?}")?);
     Ok(())
 }
 

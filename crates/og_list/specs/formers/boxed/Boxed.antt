@@ -55,7 +55,7 @@ module _ (A B : RattleType) (f : A.Denot → B.Denot) where
       (outer.the_row A).coded (outer.the_row B).coded (invariant A.Denot) (invariant B.Denot)
       (λ u p q. refl) (λ u p q. refl) (λ u e. tt) (λ u e. tt) (over (inner.the_row A)) (over (inner.the_row B))
       (struct_places (inner.the_type A) (inner.the_type B) ((λ b. pointing b (f b.value)), tt) _ (λ d. refl) refl
-          (laid _ _ _ (box_places alike), tt))
+      (laid _ _ _ (box_places alike), tt))
 
   pub the_codes_placed : Recodes A B f → Recodes (outer.the_row A) (outer.the_row B) ((the_former this).map A.Denot B.Denot f)
   the_codes_placed same value = same value
