@@ -11,7 +11,7 @@ use std::alloc::{AllocError, Global};
 /// The report on a small game.
 #[derive(Debug, Drop)]
 pub struct Report {
-    /// Whether there is no deviation.
+    /// Whether there is no deviation: no agent gains by another action at one decision alone.
     pub is_equilibrium: bool,
     /// The lines to print.
     pub text: List<u8>,
@@ -149,7 +149,17 @@ fn push_deviations(
 }
 
 /// The report on the game where the sections are played: the verdict, each agent's total in order of
-/// first appearance, and each deviation with its gain.
+/// first appearance, and each deviation with its gain. Where an agent has several lines, its total is
+/// what it is paid at all of them, and a deviation changes one alone. On the prisoner's dilemma with
+/// both at `Cooperate` the text is
+///
+/// ```text
+/// deviations 2
+/// value "player1" = 3
+/// value "player2" = 3
+/// decision 1 "player1" at () play Defect gain 2
+/// decision 2 "player2" at () play Defect gain 2
+/// ```
 pub fn report_on(
     alloc: Global,
     game: &SmallGame,

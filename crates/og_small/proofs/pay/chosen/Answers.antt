@@ -6,7 +6,7 @@ use Rattle.og_small.proofs.pay.chosen.Goals as goal
 pub lines-preserved : goal.lines-preserved
 lines-preserved c =
     chosen_later c.args.lines.now c.args.choices.now c.args.output.now c.lines.i c.index-lines-i.result (omega arith) (omega arith) c.index-lines-i.is
-      (c.if-eq.ensures ∙ ap (λ n. bytes_eq n c.args.output.now) c.as_slice.ensures)
+    (c.if-eq.ensures ∙ ap (λ n. bytes_eq n c.args.output.now) c.as_slice.ensures)
     ∙ c.lines.invariant
 
 pub returns : goal.returns
