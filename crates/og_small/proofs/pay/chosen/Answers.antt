@@ -1,6 +1,6 @@
 use Rattle.std.proofs.Common.{◌∙◌, sym, ap, arith}
 use Rattle.std.specs.Prelude.{bytes_eq}
-use Rattle.og_small.proofs.Walks.{chosen_here, chosen_later, chosen_end}
+use Rattle.og_small.proofs.Walks.{chosen_later, chosen_end}
 use Rattle.og_small.proofs.pay.chosen.Goals as goal
 
 pub lines-preserved : goal.lines-preserved
