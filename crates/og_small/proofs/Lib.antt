@@ -1,1 +1,2 @@
+pub mod Equilibria
 pub mod Walks

@@ -52,14 +52,14 @@ module _ (lines : List Line) (choices : List (List ℕ)) (output : List ℕ) whe
       → chosen (drop i lines) (drop i choices) output ≡ choice
   chosen_here i line choice in_lines in_choices is_line is_choice same =
       rw (left_at lines i line in_lines is_line, left_at choices i choice in_choices is_choice)
-        (ap (λ b. cond b choice (chosen (drop (i + 1) lines) (drop (i + 1) choices) output)) (sym same))
+      (ap (λ b. cond b choice (chosen (drop (i + 1) lines) (drop (i + 1) choices) output)) (sym same))
 
   pub chosen_later : (i : ℕ) (line : Line) → i < length lines → i < length choices
       → line ≡ get_or lines i line → false ≡ bytes_eq line.output output
       → chosen (drop (i + 1) lines) (drop (i + 1) choices) output ≡ chosen (drop i lines) (drop i choices) output
   chosen_later i line in_lines in_choices is_line differs = sym (
       rw (left_at lines i line in_lines is_line, left_any choices i [] in_choices)
-        (ap (λ b. cond b (get_or choices i []) (chosen (drop (i + 1) lines) (drop (i + 1) choices) output)) (sym differs)))
+      (ap (λ b. cond b (get_or choices i []) (chosen (drop (i + 1) lines) (drop (i + 1) choices) output)) (sym differs)))
 
 no_choice : (lines : List Line) (output : List ℕ) → chosen lines [] output ≡ []
 no_choice [] output = refl
@@ -120,7 +120,7 @@ agents_added [] line = refl
 agents_added (first ∷ lines) line =
     ap (λ rest. first.agent ∷ filter (λ agent. not (bytes_eq first.agent agent)) rest) (agents_added lines line)
     ∙ ap (λ rest. first.agent ∷ rest) (filter-append (λ agent. not (bytes_eq first.agent agent)) (agents lines) (cond (has_agent lines line.agent) [] (line.agent ∷ []))
-        ∙ ap (λ rest. filter (λ agent. not (bytes_eq first.agent agent)) (agents lines) ++ rest) (last (has_agent lines line.agent)))
+    ∙ ap (λ rest. filter (λ agent. not (bytes_eq first.agent agent)) (agents lines) ++ rest) (last (has_agent lines line.agent)))
   where
     last : (known : Bool) → filter (λ agent. not (bytes_eq first.agent agent)) (cond known [] (line.agent ∷ [])) ≡ cond (bytes_eq first.agent line.agent || known) [] (line.agent ∷ [])
     last true = any_true (bytes_eq first.agent line.agent) line.agent

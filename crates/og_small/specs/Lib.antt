@@ -1,3 +1,4 @@
 pub mod Rules
 pub mod Meaning
 pub mod Report
+pub mod Equilibrium

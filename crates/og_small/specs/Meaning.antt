@@ -1,5 +1,5 @@
 -- What a small game pays: payments, totals and deviations.
-use Rattle.std.specs.Prelude.{◌≡◌, ℕ, ◌+◌, ◌-◌, nat_lt, List, [], ◌∷◌, ◌++◌, map, flat_map, sum_by, filter, Bool, not, if◌then◌else◌, Option, Some, None, bytes_eq, find, slice_set}
+use Rattle.std.specs.Prelude.{ℕ, ◌-◌, nat_lt, List, [], ◌∷◌, map, flat_map, sum_by, filter, Bool, not, if◌then◌else◌, bytes_eq, find, slice_set}
 use Rattle.std.specs.List.{enumerate_from, list_any}
 use Rattle.std.specs.Option.{option_map_or}
 use Rattle.std.specs.Cmp.Lexicographic.{pointwise}

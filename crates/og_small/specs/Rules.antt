@@ -1,5 +1,5 @@
 -- Which small games are accepted, and which strategies fit them.
-use Rattle.std.specs.Prelude.{◌≡◌, ℕ, ◌+◌, ◌^◌, ◌==◌, nat_lt, nat_le, List, [], ◌∷◌, ◌++◌, map, flat_map, length, count_by, Bool, true, false, not, ◌&&◌, Option, Some, None, is_some, option_and_then, codes, bytes_eq, find}
+use Rattle.std.specs.Prelude.{ℕ, ◌^◌, ◌==◌, nat_lt, nat_le, List, [], ◌∷◌, ◌++◌, map, flat_map, length, count_by, Bool, true, false, not, ◌&&◌, Option, is_some, codes, bytes_eq, find}
 use Rattle.std.specs.List.{list_any, list_all}
 use Rattle.std.specs.Option.{option_map, option_map_or}
 use Rattle.std.specs.Cmp.Lexicographic.{pointwise}

@@ -13,7 +13,9 @@ use std::alloc::{AllocError, Global};
 pub struct Deviation {
     /// The decision's number, from 1.
     pub line: u64,
+    /// Who decides there.
     pub agent: List<u8>,
+    /// What is played there instead.
     pub action: List<u8>,
     /// By how much the agent's total rises. It is above 0.
     pub gain: u128,

@@ -9,6 +9,9 @@ mod rules;
 mod tree;
 
 pub use deviations::Deviation;
-pub use rules::{accepts, fits};
 pub use report::{Report, report_on};
+pub use rules::{accepts, fits};
 pub use tree::{Key, Line, Row, Section, SmallGame, TypeDecl};
+
+#[cfg(test)]
+mod tests;

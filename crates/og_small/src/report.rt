@@ -1,5 +1,6 @@
 ghost use Rattle.std.specs.Prelude.{◌≡◌, ◌++◌, [], ◌∷◌, IfOk, OnOk, IsTrue, ◌↔◌, decimal, codes, flat_map};
 ghost use Rattle.og_small.specs.Meaning.{choices_of, deviations, agents, has_agent};
+ghost use Rattle.og_small.specs.Equilibrium.{IsEquilibrium};
 ghost use Rattle.og_small.specs.Report.{quoted, counted, verdict, value_line, decision, gain, deviation_line, report};
 
 use crate::deviations::{Deviation, choices_of, find_deviations};
@@ -11,7 +12,7 @@ use std::alloc::{AllocError, Global};
 /// The report on a small game.
 #[derive(Debug, Drop)]
 pub struct Report {
-    /// Whether there is no deviation.
+    /// Whether there is no deviation: no agent gains by another action at one decision alone.
     pub is_equilibrium: bool,
     /// The lines to print.
     pub text: List<u8>,
@@ -149,7 +150,18 @@ fn push_deviations(
 }
 
 /// The report on the game where the sections are played: the verdict, each agent's total in order of
-/// first appearance, and each deviation with its gain.
+/// first appearance, and each deviation with its gain. Where an agent has several lines, its total is
+/// what it is paid at all of them, and a deviation changes one alone. On the prisoner's dilemma with
+/// both at `Cooperate` the text is
+///
+/// ```text
+/// deviations 2
+/// value "player1" = 3
+/// value "player2" = 3
+/// decision 1 "player1" at () play Defect gain 2
+/// decision 2 "player2" at () play Defect gain 2
+/// ```
+#[tactic(auto, using(crate::proofs::Equilibria::is_equilibrium, crate::proofs::Equilibria::no_deviation))]
 pub fn report_on(
     alloc: Global,
     game: &SmallGame,
@@ -157,6 +169,7 @@ pub fn report_on(
 ) -> Result<Report, AllocError>
     ensures text { IfOk result (λ made. made.text ≡ report game.now (choices_of sections.now)) }
     ensures verdict { IfOk result (λ made. IsTrue made.is_equilibrium ↔ (deviations game.now (choices_of sections.now) ≡ [])) }
+    ensures equilibrium { IfOk result (λ made. IsTrue made.is_equilibrium ↔ IsEquilibrium game.now (choices_of sections.now)) }
 {
     let choices = choices_of(alloc, sections)?;
     let deviations = find_deviations(alloc, game, choices.as_slice())?;

@@ -61,7 +61,8 @@ fn is_output(lines: &[Line], key: &Key) -> bool
     ensures { result ≡ is_output lines.now key.now }
 {
     lines.iter().any(|line| {
-        line.output.as_slice() == key.output.as_slice() && line.action.as_slice() == key.action.as_slice()
+        line.output.as_slice() == key.output.as_slice()
+            && line.action.as_slice() == key.action.as_slice()
     })
 }
 
@@ -88,11 +89,7 @@ fn add_type_names(
 }
 
 /// Adds copies of the names.
-fn add_names(
-    names: &mut List<List<u8>>,
-    alloc: Global,
-    more: &[List<u8>],
-) -> Result<(), AllocError>
+fn add_names(names: &mut List<List<u8>>, alloc: Global, more: &[List<u8>]) -> Result<(), AllocError>
     ensures { OnOk result (names.new ≡ names.old ++ more.now) }
 {
     'more: for name in more {
@@ -207,7 +204,8 @@ fn rows_at(rows: &[Row], key: &[List<u8>]) -> usize
 fn is_for_a_key(row: &Row, keys: &[List<List<u8>>]) -> bool
     ensures { result ≡ list_any (λ key. same_names row.now.cases key) keys.now }
 {
-    keys.iter().any(|key| same_names(row.cases.as_slice(), key.as_slice()))
+    keys.iter()
+        .any(|key| same_names(row.cases.as_slice(), key.as_slice()))
 }
 
 /// Whether each joint key has one row.
@@ -237,8 +235,7 @@ fn are_keys_good(game: &SmallGame, keys: &[Key]) -> bool
 {
     let types = game.types.as_slice();
     let lines = game.lines.as_slice();
-    keys.iter()
-        .all(|key| has_type(types, key.action.as_slice()) && is_output(lines, key))
+    keys.iter().all(|key| has_type(types, key.action.as_slice()) && is_output(lines, key))
 }
 
 /// Whether every number is below 2^63.
@@ -295,7 +292,12 @@ fn are_types_small(types: &[TypeDecl]) -> bool
     types.iter().all(|one| one.cases.len() <= 8)
 }
 
-/// Whether the small game is accepted: what it has to be beyond its form.
+/// Whether the small game is accepted: what it has to be beyond its form. It has at most four lines,
+/// eight cases a type and four keys a table. The names of its types, cases and outputs all differ, and
+/// none of them is `main`. Each type that it names is declared, each key is the output of some line
+/// with that line's type, each table has one row for each joint key and no other, and each number is
+/// below 2^63. With two cases `C` and `D` and the keys `x` and `y` the joint keys are `(C, C)`,
+/// `(C, D)`, `(D, C)` and `(D, D)`.
 pub fn accepts(alloc: Global, game: &SmallGame) -> Result<bool, AllocError>
     ensures { IfOk result (λ good. good ≡ is_accepted game.now) }
 {
@@ -321,7 +323,8 @@ fn suits(types: &[TypeDecl], line: &Line, section: &Section) -> bool
     }
 }
 
-/// Whether the strategy has one section for each line, in order, and each suits its line.
+/// Whether the strategy has one section for each line, in order, and each suits its line: it names the
+/// line's agent and a case of its type.
 pub fn fits(game: &SmallGame, sections: &[Section]) -> bool
     ensures { result ≡ fits game.now sections.now }
 {

@@ -4,6 +4,7 @@ use og_list::List;
 /// without its quotes.
 #[derive(Debug, Drop)]
 pub struct SmallGame {
+    /// The types, whose cases are what the decisions are among.
     pub types: List<TypeDecl>,
     /// The decisions, in order.
     pub lines: List<Line>,
@@ -21,8 +22,10 @@ pub struct TypeDecl {
 #[derive(Debug, Drop)]
 pub struct Line {
     pub agent: List<u8>,
+    /// The name of the type whose cases may be chosen.
     pub action: List<u8>,
     pub output: List<u8>,
+    /// The columns of the table.
     pub keys: List<Key>,
     pub rows: List<Row>,
 }
@@ -30,14 +33,18 @@ pub struct Line {
 /// `OUTPUT : TYPE`, a column of a table.
 #[derive(Debug, Drop)]
 pub struct Key {
+    /// The output of the line whose choice the column has.
     pub output: List<u8>,
+    /// That line's type.
     pub action: List<u8>,
 }
 
 /// `(CASE, CASE, ..) -> NUMBER;`, a row of a table.
 #[derive(Debug, Drop)]
 pub struct Row {
+    /// For each key the case that is to be chosen there.
     pub cases: List<List<u8>>,
+    /// What the line's agent is paid where just these are chosen, without a unit.
     pub pay: u64,
 }
 
@@ -45,5 +52,6 @@ pub struct Row {
 #[derive(Debug, Drop)]
 pub struct Section {
     pub agent: List<u8>,
+    /// A case of the decision's type.
     pub choice: List<u8>,
 }

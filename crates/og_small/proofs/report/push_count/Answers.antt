@@ -10,5 +10,5 @@ pub returns : goal.returns
 unfolding counted
 returns c =
     let pieces : c.extend_from_slice-2.new.self ≡ ((c.args.out.now ++ codes "deviations ") ++ decimal c.args.count) ++ 10 ∷ [] =
-        cc (c.in_ok-extend_from_slice-2.ensures.ok, c.in_ok-push_number.ensures, c.in_ok-extend_from_slice.ensures.ok) in
+    cc (c.in_ok-extend_from_slice-2.ensures.ok, c.in_ok-push_number.ensures, c.in_ok-extend_from_slice.ensures.ok) in
     pieces ∙ joined c.args.out.now (codes "deviations ") (decimal c.args.count) (10 ∷ [])

@@ -10,5 +10,5 @@ pub returns : goal.returns
 unfolding deviation_line
 returns c =
     let pieces : c.push_gain.new.out ≡ (((c.args.out.now ++ decision c.args.one.now) ++ codes " at () play ") ++ c.args.one.now.action) ++ gain c.args.one.now =
-        cc (c.in_ok-push_gain.ensures, c.in_ok-extend_from_slice-2.ensures.ok, c.in_ok-extend_from_slice.ensures.ok, c.in_ok-push_decision.ensures, c.as_slice.ensures) in
+    cc (c.in_ok-push_gain.ensures, c.in_ok-extend_from_slice-2.ensures.ok, c.in_ok-extend_from_slice.ensures.ok, c.in_ok-push_decision.ensures, c.as_slice.ensures) in
     pieces ∙ joined c.args.out.now (decision c.args.one.now) (codes " at () play ") c.args.one.now.action (gain c.args.one.now)

@@ -1,6 +1,4 @@
-use Rattle.std.proofs.Common.{◌≡◌, ◌≤◌, ◌++◌, ◌∷◌, [], take, drop, length, map}
-use Rattle.std.specs.Prelude.{flat_map}
-use Rattle.og_small.specs.Rules.{columns_of, joint}
+use Rattle.std.proofs.Common.{◌≡◌, ◌++◌, ◌∷◌, take, map}
 use Rattle.og_small.proofs.rules.add_prepended.Given as goal
 
 abbrev pub invariant-rest : goal.invariant-rest

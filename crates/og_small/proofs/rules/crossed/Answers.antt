@@ -12,4 +12,4 @@ column-preserved c =
     ∙ ap (λ all. all ++ before c.name-item.result) c.column.invariant
     ∙ flat_map_more before [] (take c.column.name-index column) c.name-item.result
     ∙ ap (flat_map before) (sym (take_more column c.column.name-index c.name-item.result c.column-test.true
-        ∙ ap (λ name. take c.column.name-index column ++ name ∷ []) (sym c.name-item.is)))
+    ∙ ap (λ name. take c.column.name-index column ++ name ∷ []) (sym c.name-item.is)))

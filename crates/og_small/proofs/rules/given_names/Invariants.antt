@@ -1,6 +1,5 @@
-use Rattle.std.proofs.Common.{◌≡◌, ◌≤◌, ◌++◌, ◌∷◌, [], take, drop, length, map}
+use Rattle.std.proofs.Common.{◌≡◌, ◌++◌, ◌∷◌, take, map}
 use Rattle.std.specs.Prelude.{flat_map}
-use Rattle.og_small.specs.Rules.{columns_of, joint}
 use Rattle.og_small.proofs.rules.given_names.Given as goal
 
 abbrev pub invariant-lines : goal.invariant-lines

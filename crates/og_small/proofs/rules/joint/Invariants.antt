@@ -1,6 +1,5 @@
-use Rattle.std.proofs.Common.{◌≡◌, ◌≤◌, ◌++◌, ◌∷◌, [], take, drop, length, map}
-use Rattle.std.specs.Prelude.{flat_map}
-use Rattle.og_small.specs.Rules.{columns_of, joint}
+use Rattle.std.proofs.Common.{◌≡◌, ◌≤◌, drop, length}
+use Rattle.og_small.specs.Rules.{joint}
 use Rattle.og_small.proofs.rules.joint.Given as goal
 
 abbrev pub invariant-columns : goal.invariant-columns

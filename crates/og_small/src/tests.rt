@@ -1,0 +1,252 @@
+use super::*;
+use crate::copies::copy_name;
+use og_list::List;
+use std::alloc::{AllocError, Global};
+use std::str::SplitWhitespace;
+use std::test::Fail;
+
+fn name(alloc: Global, text: &str) -> Result<List<u8>, AllocError> {
+    copy_name(alloc, text.as_bytes())
+}
+
+fn names(alloc: Global, words: SplitWhitespace<'_>) -> Result<List<List<u8>>, AllocError> {
+    let mut made = List::new(alloc);
+    for word in words {
+        made.add(name(alloc, word)?)?;
+    }
+    Ok(made)
+}
+
+/// Adds one part of a game's text: `type NAME CASES`, `line AGENT TYPE OUTPUT`, or `key OUTPUT TYPE`
+/// and `row NUMBER CASES`, which belong to the last line.
+fn add_part(alloc: Global, game: &mut SmallGame, part: &str) -> Result<(), Fail> {
+    let mut words = part.split_whitespace();
+    let kind = words.next().unwrap_or("");
+    let first = words.next().unwrap_or("");
+    if kind == "type" {
+        game.types.add(TypeDecl {
+            name: name(alloc, first)?,
+            cases: names(alloc, words)?,
+        })?;
+    } else if kind == "line" {
+        game.lines.add(Line {
+            agent: name(alloc, first)?,
+            action: name(alloc, words.next().ok_or("a type")?)?,
+            output: name(alloc, words.next().ok_or("an output")?)?,
+            keys: List::new(alloc),
+            rows: List::new(alloc),
+        })?;
+    } else if kind != "" {
+        let mut line = game.lines.pop().ok_or("a line")?;
+        if kind == "key" {
+            line.keys.add(Key {
+                output: name(alloc, first)?,
+                action: name(alloc, words.next().ok_or("a type")?)?,
+            })?;
+        } else {
+            line.rows.add(Row {
+                pay: first.parse::<u64>().ok().ok_or("a number")?,
+                cases: names(alloc, words)?,
+            })?;
+        }
+        game.lines.add(line)?;
+    }
+    Ok(())
+}
+
+/// The game of a text, whose parts have `;` between them.
+fn game(alloc: Global, text: &str) -> Result<SmallGame, Fail> {
+    let mut made = SmallGame {
+        types: List::new(alloc),
+        lines: List::new(alloc),
+    };
+    for part in text.split(';') {
+        add_part(alloc, &mut made, part)?;
+    }
+    Ok(made)
+}
+
+/// The strategy of a text: for each section its agent and its choice.
+fn strategy(alloc: Global, text: &str) -> Result<List<Section>, Fail> {
+    let mut made = List::new(alloc);
+    let mut words = text.split_whitespace();
+    for _ in 0..5 {
+        if let Some(agent) = words.next() {
+            made.add(Section {
+                agent: name(alloc, agent)?,
+                choice: name(alloc, words.next().ok_or("a choice")?)?,
+            })?;
+        }
+    }
+    Ok(made)
+}
+
+/// What is told about a game: `refused`, or `unfit` where the strategy does not fit, or the report.
+fn told(alloc: Global, text: &str, choices: &str) -> Result<List<u8>, Fail> {
+    let game = game(alloc, text)?;
+    if !accepts(alloc, &game)? {
+        return Ok(name(alloc, "refused")?);
+    }
+    let sections = strategy(alloc, choices)?;
+    if !fits(&game, sections.as_slice()) {
+        return Ok(name(alloc, "unfit")?);
+    }
+    let made = report_on(alloc, &game, sections.as_slice())?;
+    if made.is_equilibrium != made.text.as_slice().starts_with(b"equilibrium") {
+        return Ok(name(alloc, "another verdict")?);
+    }
+    Ok(made.text)
+}
+
+/// The prisoner's dilemma.
+const DILEMMA: &str = "type Move C D;
+    line player1 Move x; key x Move; key y Move; row 3 C C; row 0 C D; row 5 D C; row 1 D D;
+    line player2 Move y; key y Move; key x Move; row 3 C C; row 0 C D; row 5 D C; row 1 D D;";
+
+/// One agent at both lines, the second paid by both choices.
+const FIRM: &str = "type Level Low High;
+    line firm Level price; key price Level; row 1 Low; row 4 High;
+    line firm Level stock; key price Level; key stock Level;
+    row 2 Low Low; row 5 Low High; row 0 High Low; row 7 High High";
+
+/// Of four cases two gain at Left, and one is paid the same.
+const SIDE: &str = "type Side Left Middle Right Back;
+    line solo Side z; key z Side; row 1 Left; row 5 Middle; row 3 Right; row 1 Back";
+
+/// An agent who comes again.
+const AGAIN: &str =
+    "type Move C D; line b Move x; row 4; line a Move y; row 2; line b Move z; row 3";
+
+#[test]
+fn reports(rt: HostRuntime) -> Result<(), Fail> {
+    let alloc = rt.alloc();
+    let cases = [
+        (
+            DILEMMA,
+            "player1 C player2 C",
+            "deviations 2\nvalue \"player1\" = 3\nvalue \"player2\" = 3\ndecision 1 \"player1\" at () play D gain 2\ndecision 2 \"player2\" at () play D gain 2\n",
+        ),
+        (
+            DILEMMA,
+            "player1 D player2 D",
+            "equilibrium\nvalue \"player1\" = 1\nvalue \"player2\" = 1\n",
+        ),
+        (
+            DILEMMA,
+            "player1 C player2 D",
+            "deviations 1\nvalue \"player1\" = 0\nvalue \"player2\" = 5\ndecision 1 \"player1\" at () play D gain 1\n",
+        ),
+        (
+            FIRM,
+            "firm Low firm Low",
+            "deviations 2\nvalue \"firm\" = 3\ndecision 1 \"firm\" at () play High gain 1\ndecision 2 \"firm\" at () play High gain 3\n",
+        ),
+        (
+            FIRM,
+            "firm High firm High",
+            "equilibrium\nvalue \"firm\" = 11\n",
+        ),
+        (
+            SIDE,
+            "solo Left",
+            "deviations 2\nvalue \"solo\" = 1\ndecision 1 \"solo\" at () play Middle gain 4\ndecision 1 \"solo\" at () play Right gain 2\n",
+        ),
+        (
+            SIDE,
+            "solo Right",
+            "deviations 1\nvalue \"solo\" = 3\ndecision 1 \"solo\" at () play Middle gain 2\n",
+        ),
+        (SIDE, "solo Middle", "equilibrium\nvalue \"solo\" = 5\n"),
+        (
+            AGAIN,
+            "b C a C b D",
+            "equilibrium\nvalue \"b\" = 7\nvalue \"a\" = 2\n",
+        ),
+        ("", "", "equilibrium\n"),
+        ("", "player1 C", "unfit"),
+        (DILEMMA, "player2 C player1 C", "unfit"),
+        (DILEMMA, "player1 C player2 Move", "unfit"),
+        (DILEMMA, "player1 C", "unfit"),
+        (DILEMMA, "player1 C player2 C player1 C", "unfit"),
+    ];
+    for (text, choices, want) in cases {
+        let made = told(alloc, text, choices)?;
+        let shown = str::from_utf8(made.as_slice()).ok().ok_or("a text")?;
+        assert_eq!(rt; shown, want, "{choices} in {text}");
+    }
+    Ok(())
+}
+
+#[test]
+fn accepted_games(rt: HostRuntime) -> Result<(), Fail> {
+    let alloc = rt.alloc();
+    // What stands after the prisoner's dilemma, and whether all that is accepted.
+    let cases = [
+        ("", true),
+        (
+            "type Side E; line a Side z; key x Move; key z Side; row 1 C E; row 2 D E",
+            true,
+        ),
+        // names that differ, and none `main`
+        ("type Move E", false),
+        ("type D E", false),
+        ("type x E", false),
+        ("type Side E D", false),
+        ("type Side E E", false),
+        ("type Side y", false),
+        ("type Side Side", false),
+        ("line a Move x; row 0", false),
+        ("line a Move C; row 0", false),
+        ("type Side E main", false),
+        ("type main E", false),
+        ("line a Move main; row 0", false),
+        ("line main Move z; row 0", true),
+        // declared types, and keys that are outputs with their types
+        ("line a Side z; row 0", false),
+        ("line a Move z; key x Side", false),
+        ("type Side E; line a Side z; key w Side; row 0 E", false),
+        ("type Side E; line a Side z; key x Side; row 0 E", false),
+        // a row for each joint key
+        ("line a Move z; key x Move; row 1 D", false),
+        ("line a Move z; key x Move; row 1 D; row 2 C", true),
+        (
+            "line a Move z; key x Move; row 1 D; row 2 C; row 1 D",
+            false,
+        ),
+        (
+            "line a Move z; key x Move; row 1 D; row 2 C; row 1 x",
+            false,
+        ),
+        ("line a Move z; key x Move; row 1 D; row 2 C; row 1", false),
+        (
+            "line a Move z; key x Move; row 1 D; row 2 C; row 1 C D",
+            false,
+        ),
+        ("line a Move z", false),
+        // numbers below 2^63
+        ("line a Move z; row 9223372036854775807", true),
+        ("line a Move z; row 9223372036854775808", false),
+        // sizes
+        ("type Side a b c d e f g h", true),
+        ("type Side a b c d e f g h i", false),
+        ("line a Move z; row 0; line a Move w; row 0", true),
+        (
+            "line a Move z; row 0; line a Move w; row 0; line a Move v; row 0",
+            false,
+        ),
+        (
+            "type Side E; line a Side z; key z Side; key z Side; key z Side; key z Side; row 0 E E E E",
+            true,
+        ),
+        (
+            "type Side E; line a Side z; key z Side; key z Side; key z Side; key z Side; key z Side; row 0 E E E E E",
+            false,
+        ),
+    ];
+    for (more, want) in cases {
+        let text = format!(in alloc; "{DILEMMA} {more}")?;
+        let made = game(alloc, text.as_str())?;
+        assert_eq!(rt; accepts(alloc, &made)?, want, "with {more}");
+    }
+    Ok(())
+}
