@@ -1,5 +1,5 @@
 -- Tokens in order stand within the text.
-use Rattle.std.proofs.Common.{◌≡◌, ℕ, ◌+◌, ◌<◌, ◌≤◌, List, [], ◌∷◌, length, drop, get_or, arith, subst, add-one, drop-cons}
+use Rattle.std.proofs.Common.{ℕ, ◌<◌, ◌≤◌, List, [], ◌∷◌, length, drop, get_or, arith, subst, drop-cons}
 use Rattle.og_lex.specs.declared.token.Token.{Token}
 use Rattle.og_lex.specs.Spelling.{AreInOrder}
 use Prim.Native.Nat.{suc}

@@ -1,16 +1,12 @@
 -- How the two halves of an answer come together, over plain variables.
-use Rattle.std.proofs.Common.{◌≡◌, ℕ, ◌+◌, ◌<◌, ◌≤◌, ◌∙◌, sym, subst, length, List, [], ◌∷◌, ◌++◌, Option, Some, None, Result, Ok, Err, IfOk, true, refl, ap, arith, inl, inr}
-use Rattle.std.specs.Prelude.{◌⊎◌, IfSome, replicate, codes}
+use Rattle.std.proofs.Common.{◌≡◌, ℕ, ◌+◌, ◌<◌, ◌≤◌, ◌∙◌, subst, length, List, [], Option, Some, None, Result, Ok, Err, IfOk, refl, arith, inl, inr}
+use Rattle.std.specs.Prelude.{◌⊎◌, IfSome, replicate}
 use Rattle.std.proofs.lemmas.List.{length-replicate}
-use Rattle.og_io.specs.Outside.{Rose, NoneRose, OnlyMoves}
+use Rattle.og_io.specs.Outside.{Rose, NoneRose}
 use Rattle.og_small.specs.declared.tree.SmallGame.{SmallGame}
-use Rattle.og_small.specs.declared.tree.Section.{Section}
-use Rattle.og_small.specs.Rules.{fits}
-use Rattle.og_tool.specs.declared.status.Status.{Status}
-use Rattle.og_tool.specs.declared.status.Status.TheVariants as status
 use Rattle.og_tool.specs.declared.answer.Answer.{Answer}
 use Rattle.og_tool.specs.Words.{Names}
-use Rattle.og_tool.specs.Texts.{IsGame, IsStrategy}
+use Rattle.og_tool.specs.Texts.{IsGame}
 use Rattle.og_tool.specs.Answer as spec
 use Rattle.og_tool.specs.Held.{MayHold, HeldHas}
 use Rattle.og_tool.specs.Steps.{StepsToStrategy}

@@ -1,9 +1,8 @@
 -- Two texts have at most one answer.
-use Rattle.std.proofs.Common.{◌≡◌, ◌∙◌, ℕ, List, true, sym, ap, subst, inl, inr}
+use Rattle.std.proofs.Common.{◌≡◌, ◌∙◌, ℕ, List, sym, ap, subst, inl, inr}
 use Rattle.std.specs.Prelude.{◌⊎◌}
 use Rattle.og_small.specs.declared.tree.SmallGame.{SmallGame}
 use Rattle.og_small.specs.declared.tree.Section.{Section}
-use Rattle.og_small.specs.Rules.{fits}
 use Rattle.og_small.specs.Meaning.{choices_of}
 use Rattle.og_small.specs.Report.{report}
 use Rattle.og_tool.specs.declared.status.Status.{Status}

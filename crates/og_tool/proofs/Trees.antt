@@ -1,5 +1,5 @@
 -- A text has at most one tree, and none where its one row of tokens spells none.
-use Rattle.std.proofs.Common.{◌≡◌, ℕ, List, true, false, subst, sym}
+use Rattle.std.proofs.Common.{◌≡◌, ℕ, List, true, false, subst}
 use Rattle.og_lex.specs.declared.token.Token.{Token}
 use Rattle.og_small.specs.declared.tree.SmallGame.{SmallGame}
 use Rattle.og_small.specs.declared.tree.Section.{Section}

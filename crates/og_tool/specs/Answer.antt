@@ -1,10 +1,11 @@
 -- What a run answers: which bytes it writes and which status it ends with.
-use Rattle.std.specs.Prelude.{◌≡◌, ◌⊎◌, ℕ, ◌≤◌, List, [], ◌∷◌, ◌++◌, take, length, ◌==◌, if◌then◌else◌, Option, Some, None, IfSome, true, codes}
+use Rattle.std.specs.Prelude.{◌≡◌, ◌↔◌, ◌⊎◌, ℕ, ◌≤◌, List, [], ◌∷◌, ◌++◌, take, length, ◌==◌, if◌then◌else◌, Option, Some, None, true, codes}
 use Rattle.og_io.specs.Outside.{Rose, NoneRose, OnlyMoves, GrowsBy}
 use Rattle.og_small.specs.declared.tree.SmallGame.{SmallGame}
 use Rattle.og_small.specs.declared.tree.Section.{Section}
 use Rattle.og_small.specs.Rules.{fits}
 use Rattle.og_small.specs.Meaning.{choices_of, deviations}
+use Rattle.og_small.specs.Equilibrium.{IsEquilibrium}
 use Rattle.og_small.specs.Report.{report}
 use Rattle.og_tool.specs.declared.status.Status.{Status}
 use Rattle.og_tool.specs.declared.status.Status.TheVariants as status
@@ -43,6 +44,7 @@ pub record Reports (tree : SmallGame) (strategy : List ℕ) (ends : Status) (byt
   pub is_strategy : IsStrategy strategy sections
   pub suits : fits tree sections ≡ true
   pub ends_as : ends ≡ verdict_of tree sections
+  pub equilibrium : (ends ≡ status.Done) ↔ IsEquilibrium tree (choices_of sections)
   pub writes : bytes ≡ report tree (choices_of sections)
 
 -- The game's text is the small game of this tree.

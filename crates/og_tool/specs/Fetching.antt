@@ -1,5 +1,5 @@
 -- What came of reading a file: a text that may be held, one that is too long, or a failure.
-use Rattle.std.specs.Prelude.{◌≡◌, ℕ, ◌<◌, ◌≤◌, List, length, Option}
+use Rattle.std.specs.Prelude.{ℕ, ◌<◌, ◌≤◌, List, length, Option}
 use Rattle.og_io.specs.Outside.{Rose, NoneRose}
 use Rattle.og_tool.specs.declared.fetch.Fetched.{Fetched}
 use Rattle.og_tool.specs.declared.fetch.Fetched.TheVariants.{Text, TooLong, Failed}

@@ -1,5 +1,5 @@
 -- The two halves of an answer: what came of the game's file, and then of the strategy's.
-use Rattle.std.specs.Prelude.{◌≡◌, ◌⊎◌, ℕ, List, Option}
+use Rattle.std.specs.Prelude.{◌⊎◌, ℕ, List, Option}
 use Rattle.og_io.specs.Outside.{NoneRose}
 use Rattle.og_small.specs.declared.tree.SmallGame.{SmallGame}
 use Rattle.og_tool.specs.declared.answer.Answer.{Answer}

@@ -1,6 +1,7 @@
-ghost use Rattle.std.specs.Prelude.{◌≡◌, ℕ, List, ◌≤◌, ◌⊎◌, Some, None, IfOk, OnOk, map, string_bytes};
+ghost use Rattle.std.specs.Prelude.{◌≡◌, ℕ, List, ◌≤◌, ◌↔◌, ◌⊎◌, Some, None, IfOk, OnOk, map, string_bytes};
 ghost use Rattle.og_io.specs.Outside.{NoneRose, OnlyMoves};
 ghost use Rattle.og_small.specs.Meaning.{choices_of};
+ghost use Rattle.og_small.specs.Equilibrium.{IsEquilibrium};
 ghost use Rattle.og_small.specs.Report.{report};
 ghost use Rattle.og_tool.specs.Words.{named};
 ghost use Rattle.og_tool.specs.Answer.{BadStrategy, Reports, verdict_of, Intends, MovesNamed};
@@ -59,6 +60,7 @@ fn step_to_game<F: Files>(alloc: Global, file: &str, files: &mut F) -> Result<Ga
 /// The report on the game where the sections are played.
 fn reported(alloc: Global, tree: &SmallGame, sections: &[Section]) -> Result<Answer, AllocError>
     ensures ends { IfOk result (λ a. a.status ≡ verdict_of tree.now sections.now) }
+    ensures equilibrium { IfOk result (λ a. (a.status ≡ Status.Done) ↔ IsEquilibrium tree.now (choices_of sections.now)) }
     ensures writes { IfOk result (λ a. a.bytes ≡ report tree.now (choices_of sections.now)) }
 {
     let report = report_on(alloc, tree, sections)?;

@@ -1,6 +1,5 @@
 use Rattle.std.proofs.Common.{subst}
 use Rattle.og_tool.specs.declared.answer.GameStep.{GameStep}
-use Rattle.og_tool.specs.declared.answer.GameStep.TheVariants.{Accepted, Refused}
 use Rattle.og_tool.specs.Steps.{StepsToGame}
 use Rattle.og_tool.proofs.Merges.{refused_game, accepted_game}
 use Rattle.og_tool.proofs.answer.check.Goals as goal

@@ -1,7 +1,14 @@
-use Rattle.std.proofs.Common.{◌≡◌, ◌∙◌, ap, sym, List, Option, true, false, subst, inl}
+use Rattle.std.proofs.Common.{◌≡◌, ◌∙◌, ap, List, Option, true, false, subst, inl}
 use Rattle.og_small.specs.declared.tree.Section.{Section}
 use Rattle.og_small.specs.Rules.{fits}
 use Rattle.og_tool.specs.Texts.{IsStrategy, ReadsStrategy}
+use Rattle.std.proofs.Common.{inr}
+use Rattle.std.specs.Prelude.{◌↔◌}
+use Rattle.og_small.specs.Meaning.{choices_of}
+use Rattle.og_small.specs.Report.{report}
+use Rattle.og_small.specs.Equilibrium.{IsEquilibrium}
+use Rattle.og_tool.specs.declared.status.Status.TheVariants.{Done}
+use Rattle.og_tool.specs.Answer.{verdict_of}
 use Rattle.og_tool.proofs.answer.judge.Goals as goal
 
 pub returns-in-Some : goal.returns-in-Some
@@ -25,4 +32,19 @@ returns c =
       cause = λ sections is _. none sections is;
       ends_as = c.in_ok-line-in-None.ensures.ends;
       writes = c.in_ok-line-in-None.ensures.writes ∙ c.as_slice-bad.ensures;
+    })
+
+pub returns-then-suits : goal.returns-then-suits
+returns-then-suits c =
+    let is_strategy : IsStrategy c.args.text.now c.in-Some.sections = subst (λ (o : Option (List Section)). ReadsStrategy c.args.text.now o) c.in-Some.is c.in_ok-sections.ensures in
+    let suits : fits c.args.tree.now c.in-Some.sections ≡ true = cc (c.fits-suits.ensures, c.if-suits.true, c.as_slice.ensures) in
+    let same : c.as_slice-then-suits.result.now ≡ c.in-Some.sections = c.as_slice-then-suits.ensures in
+    inr (record {
+      sections = c.in-Some.sections;
+      is_strategy = is_strategy;
+      suits = suits;
+      ends_as = c.in_ok-reported-in-Some.ensures.ends ∙ ap (verdict_of c.args.tree.now) same;
+      equilibrium = subst (λ (s : List Section). (c.in_ok-reported-in-Some.field-0.status ≡ Done) ↔ IsEquilibrium c.args.tree.now (choices_of s)) same
+          c.in_ok-reported-in-Some.ensures.equilibrium;
+      writes = c.in_ok-reported-in-Some.ensures.writes ∙ ap (λ s. report c.args.tree.now (choices_of s)) same;
     })

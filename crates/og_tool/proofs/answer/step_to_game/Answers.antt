@@ -1,10 +1,8 @@
-use Rattle.std.proofs.Common.{◌≡◌, ℕ, List, Option, None, subst, inl, ◌∙◌}
+use Rattle.std.proofs.Common.{ℕ, List, Option, None, subst, inl, ◌∙◌}
 use Rattle.og_small.specs.declared.tree.SmallGame.{SmallGame}
 use Rattle.og_tool.specs.declared.fetch.Fetched.{Fetched}
-use Rattle.og_tool.specs.declared.fetch.Fetched.TheVariants.{Text, TooLong}
 use Rattle.og_tool.specs.Fetching.{Fetches}
 use Rattle.og_tool.specs.Texts.{ReadsGame}
-use Rattle.og_tool.proofs.Long.{long_is_no_game}
 use Rattle.og_tool.proofs.answer.step_to_game.Goals as goal
 
 pub returns-in-Text-clause-steps : goal.returns-in-Text-clause-steps

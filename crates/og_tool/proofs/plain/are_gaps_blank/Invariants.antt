@@ -1,4 +1,4 @@
-use Rattle.std.proofs.Common.{◌≡◌, ◌≤◌, drop, length}
+use Rattle.std.proofs.Common.{◌≡◌, drop, length}
 use Rattle.og_lex.specs.Spelling.{AreInOrder}
 use Rattle.og_tool.specs.Texts.{are_gaps_blank}
 use Rattle.og_tool.proofs.plain.are_gaps_blank.Given as goal

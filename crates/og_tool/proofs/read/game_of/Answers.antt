@@ -1,4 +1,4 @@
-use Rattle.std.proofs.Common.{◌≡◌, List, Option, None, Some, false, subst}
+use Rattle.std.proofs.Common.{◌≡◌, List, Option, false, subst}
 use Rattle.og_lex.specs.declared.token.Token.{Token}
 use Rattle.og_small.specs.declared.tree.SmallGame.{SmallGame}
 use Rattle.og_small.specs.Rules.{is_accepted}
