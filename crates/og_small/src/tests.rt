@@ -18,7 +18,7 @@ fn names(alloc: Global, words: SplitWhitespace<'_>) -> Result<List<List<u8>>, Al
 }
 
 /// Adds one part of a game's text: `type NAME CASES`, `line AGENT TYPE OUTPUT`, or `key OUTPUT TYPE`
-/// and `row NUMBER CASES`, which belong to the last line.
+/// and `pays NUMBER CASES`, which belong to the last line.
 fn add_part(alloc: Global, game: &mut SmallGame, part: &str) -> Result<(), Fail> {
     let mut words = part.split_whitespace();
     let kind = words.next().unwrap_or("");
@@ -100,22 +100,22 @@ fn told(alloc: Global, text: &str, choices: &str) -> Result<List<u8>, Fail> {
 
 /// The prisoner's dilemma.
 const DILEMMA: &str = "type Move C D;
-    line player1 Move x; key x Move; key y Move; row 3 C C; row 0 C D; row 5 D C; row 1 D D;
-    line player2 Move y; key y Move; key x Move; row 3 C C; row 0 C D; row 5 D C; row 1 D D;";
+    line player1 Move x; key x Move; key y Move; pays 3 C C; pays 0 C D; pays 5 D C; pays 1 D D;
+    line player2 Move y; key y Move; key x Move; pays 3 C C; pays 0 C D; pays 5 D C; pays 1 D D;";
 
 /// One agent at both lines, the second paid by both choices.
 const FIRM: &str = "type Level Low High;
-    line firm Level price; key price Level; row 1 Low; row 4 High;
+    line firm Level price; key price Level; pays 1 Low; pays 4 High;
     line firm Level stock; key price Level; key stock Level;
-    row 2 Low Low; row 5 Low High; row 0 High Low; row 7 High High";
+    pays 2 Low Low; pays 5 Low High; pays 0 High Low; pays 7 High High";
 
 /// Of four cases two gain at Left, and one is paid the same.
 const SIDE: &str = "type Side Left Middle Right Back;
-    line solo Side z; key z Side; row 1 Left; row 5 Middle; row 3 Right; row 1 Back";
+    line solo Side z; key z Side; pays 1 Left; pays 5 Middle; pays 3 Right; pays 1 Back";
 
 /// An agent who comes again.
 const AGAIN: &str =
-    "type Move C D; line b Move x; row 4; line a Move y; row 2; line b Move z; row 3";
+    "type Move C D; line b Move x; pays 4; line a Move y; pays 2; line b Move z; pays 3";
 
 #[test]
 fn reports(rt: HostRuntime) -> Result<(), Fail> {
@@ -184,7 +184,7 @@ fn accepted_games(rt: HostRuntime) -> Result<(), Fail> {
     let cases = [
         ("", true),
         (
-            "type Side E; line a Side z; key x Move; key z Side; row 1 C E; row 2 D E",
+            "type Side E; line a Side z; key x Move; key z Side; pays 1 C E; pays 2 D E",
             true,
         ),
         // names that differ, and none `main`
@@ -195,51 +195,54 @@ fn accepted_games(rt: HostRuntime) -> Result<(), Fail> {
         ("type Side E E", false),
         ("type Side y", false),
         ("type Side Side", false),
-        ("line a Move x; row 0", false),
-        ("line a Move C; row 0", false),
+        ("line a Move x; pays 0", false),
+        ("line a Move C; pays 0", false),
         ("type Side E main", false),
         ("type main E", false),
-        ("line a Move main; row 0", false),
-        ("line main Move z; row 0", true),
+        ("line a Move main; pays 0", false),
+        ("line main Move z; pays 0", true),
         // declared types, and keys that are outputs with their types
-        ("line a Side z; row 0", false),
+        ("line a Side z; pays 0", false),
         ("line a Move z; key x Side", false),
-        ("type Side E; line a Side z; key w Side; row 0 E", false),
-        ("type Side E; line a Side z; key x Side; row 0 E", false),
+        ("type Side E; line a Side z; key w Side; pays 0 E", false),
+        ("type Side E; line a Side z; key x Side; pays 0 E", false),
         // a row for each joint key
-        ("line a Move z; key x Move; row 1 D", false),
-        ("line a Move z; key x Move; row 1 D; row 2 C", true),
+        ("line a Move z; key x Move; pays 1 D", false),
+        ("line a Move z; key x Move; pays 1 D; pays 2 C", true),
         (
-            "line a Move z; key x Move; row 1 D; row 2 C; row 1 D",
+            "line a Move z; key x Move; pays 1 D; pays 2 C; pays 1 D",
             false,
         ),
         (
-            "line a Move z; key x Move; row 1 D; row 2 C; row 1 x",
+            "line a Move z; key x Move; pays 1 D; pays 2 C; pays 1 x",
             false,
         ),
-        ("line a Move z; key x Move; row 1 D; row 2 C; row 1", false),
         (
-            "line a Move z; key x Move; row 1 D; row 2 C; row 1 C D",
+            "line a Move z; key x Move; pays 1 D; pays 2 C; pays 1",
+            false,
+        ),
+        (
+            "line a Move z; key x Move; pays 1 D; pays 2 C; pays 1 C D",
             false,
         ),
         ("line a Move z", false),
         // numbers below 2^63
-        ("line a Move z; row 9223372036854775807", true),
-        ("line a Move z; row 9223372036854775808", false),
+        ("line a Move z; pays 9223372036854775807", true),
+        ("line a Move z; pays 9223372036854775808", false),
         // sizes
         ("type Side a b c d e f g h", true),
         ("type Side a b c d e f g h i", false),
-        ("line a Move z; row 0; line a Move w; row 0", true),
+        ("line a Move z; pays 0; line a Move w; pays 0", true),
         (
-            "line a Move z; row 0; line a Move w; row 0; line a Move v; row 0",
+            "line a Move z; pays 0; line a Move w; pays 0; line a Move v; pays 0",
             false,
         ),
         (
-            "type Side E; line a Side z; key z Side; key z Side; key z Side; key z Side; row 0 E E E E",
+            "type Side E; line a Side z; key z Side; key z Side; key z Side; key z Side; pays 0 E E E E",
             true,
         ),
         (
-            "type Side E; line a Side z; key z Side; key z Side; key z Side; key z Side; key z Side; row 0 E E E E E",
+            "type Side E; line a Side z; key z Side; key z Side; key z Side; key z Side; key z Side; pays 0 E E E E E",
             false,
         ),
     ];
