@@ -1,0 +1,8 @@
+/// Why a call on fractions has no answer.
+#[derive(Clone, Copy, Debug, PartialEq, Eq)]
+pub enum FracFault {
+    /// A denominator of 0 was given.
+    Zero,
+    /// The exact number in lowest terms has a part that is 2^63 or more.
+    Passes,
+}

@@ -1,0 +1,12 @@
+//! Exact fractions in words: each call answers the rational number itself, or that it does not fit.
+//! No call takes memory.
+#![tactic(auto)]
+
+mod divisor;
+mod fault;
+mod frac;
+mod wide;
+
+pub use fault::FracFault;
+pub use frac::Frac;
+pub use wide::Wide;
