@@ -1,2 +1,4 @@
 pub mod Divisors
 pub mod LowestTerms
+pub mod Multiples
+pub mod TermLaws

@@ -2,3 +2,4 @@ pub mod Fraction
 pub mod Wide
 pub mod Frac
 pub mod Text
+pub mod Terms

@@ -5,8 +5,10 @@
 mod divisor;
 mod fault;
 mod frac;
+mod terms;
 mod wide;
 
-pub use fault::FracFault;
+pub use fault::{FracFault, SumFault};
 pub use frac::Frac;
+pub use terms::{Sum, Term};
 pub use wide::Wide;

@@ -34,7 +34,7 @@ impl Wide {
 }
 
 /// The number of this size with the sign of the other number.
-fn with_sign_of(other: i128, size: u128) -> i128
+pub fn with_sign_of(other: i128, size: u128) -> i128
     requires { size < 2 ^ 127 }
     ensures value { result ≡ sign other *ℤ pos size }
     ensures size { unsigned_abs result ≡ size }
