@@ -4,7 +4,7 @@ use Rattle.og_frac.specs.declared.terms.Term.{Term}
 use Rattle.og_frac.specs.declared.terms.Sum.{Sum}
 use Rattle.og_frac.specs.declared.fault.SumFault.{SumFault}
 use Rattle.og_frac.specs.declared.fault.SumFault.TheVariants.{Passes}
-use Rattle.og_frac.specs.Fraction.{IsFrac, least_common_multiple}
+use Rattle.og_frac.specs.Fraction.{Fraction, IsFrac, least_common_multiple, sum, product, whole}
 
 -- the least common multiple of the denominators, 1 for no term
 abbrev pub common_denominator : List Term → ℕ
@@ -35,6 +35,15 @@ value ts = value_over (common_denominator ts) ts
 
 abbrev pub absolute : List Term → ℕ
 absolute ts = absolute_over (common_denominator ts) ts
+
+-- the terms' sum as a fraction: each payment times its weight, added up
+abbrev pub total : List Term → Fraction
+total [] = whole (pos 0)
+total (t ∷ ts) = sum (product (whole (pos t.weight)) t.pay) (total ts)
+
+-- a term's denominator is above 0
+abbrev pub IsPositive : Term → Type 0
+IsPositive t = 0 < t.pay.denominator
 
 -- what stands in a sum of the terms
 pub record IsSumOf (ts : List Term) (sum : Sum) : Type 0 where

@@ -5,6 +5,7 @@
 mod divisor;
 mod fault;
 mod frac;
+pub mod laws;
 mod terms;
 mod wide;
 
