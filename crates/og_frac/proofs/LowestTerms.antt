@@ -1,0 +1,56 @@
+-- Laws of lowest terms.
+use Rattle.std.proofs.Common.{◌≡◌, ℕ, zero, suc, ◌*◌, ◌/◌, ◌<◌, ◌^◌, ℤ, pos, negsuc, arith, refl, sym, ap, subst, ◌∙◌}
+use Rattle.std.specs.Prelude.{◌*ℤ◌, unsigned_abs, int_div}
+use Rattle.std.specs.Int.{int_div_euclid}
+use Rattle.std.proofs.lemmas.Int.{ints, unsigned_abs-mul}
+use Rattle.std.proofs.lemmas.Nat.{mul-lt}
+use Rattle.std.proofs.Math.Nat.{div-mul_cancel, zero-mul, one-mul}
+use Rattle.og_frac.specs.Fraction.{Fraction, greatest_common_divisor, in_lowest_terms, IsInLowestTerms, sign, divided_down}
+use Rattle.og_frac.proofs.Divisors.{greatest_common_divisor_is, greatest_common_divisor-left}
+
+pub sign-div : (n : ℤ) (g : ℕ) → sign n *ℤ pos (unsigned_abs n / g) ≡ int_div n (pos g)
+sign-div (pos n) g = ap pos (one-mul (n / g))
+sign-div (negsuc n) g = omega (arith, ints)
+
+pub unsigned_abs-div : (n : ℤ) (g : ℕ) → unsigned_abs (int_div n (pos g)) ≡ unsigned_abs n / g
+unsigned_abs-div (pos n) g = refl
+unsigned_abs-div (negsuc n) g = omega (arith, ints)
+
+quotient_positive : (d g : ℕ) → 0 < d → d / g * g ≡ d → 0 < d / g
+quotient_positive d g h e = by (d / g) e
+  where
+    by : (n : ℕ) → n * g ≡ d → 0 < n
+    by zero e = absurd (omega (arith, zero-mul g))
+    by (suc n) e = omega arith
+
+pub in_lowest_terms_is : (q : Fraction) → 0 < q.denominator → IsInLowestTerms (in_lowest_terms q)
+unfolding in_lowest_terms
+in_lowest_terms_is q h =
+    let a = unsigned_abs q.numerator in
+    let g = greatest_common_divisor a q.denominator in
+    let is = greatest_common_divisor_is a q.denominator in
+    record {
+      positive = quotient_positive q.denominator g h (div-mul_cancel g is.1);
+      reduced = ap (λ n. greatest_common_divisor n (q.denominator / g)) (unsigned_abs-div q.numerator g) ∙ greatest_common_divisor-left a q.denominator h;
+    }
+
+-- what a size, a common divisor and a sign give
+pub lowest_from_parts : (n m : ℤ) (d s g k : ℕ) → s ≡ unsigned_abs n → g ≡ greatest_common_divisor s d → m ≡ sign n *ℤ pos (s / g) → k ≡ d / g
+    → record { numerator = m; denominator = k } ≡ in_lowest_terms (record { numerator = n; denominator = d })
+unfolding in_lowest_terms
+lowest_from_parts n m d s g k es eg em ek =
+    let same : g ≡ greatest_common_divisor (unsigned_abs n) d = eg ∙ ap (λ x. greatest_common_divisor x d) es in
+    let first : m ≡ int_div n (pos (greatest_common_divisor (unsigned_abs n) d)) =
+    em ∙ (λ i. sign n *ℤ pos (es i / same i)) ∙ sign-div n _ in
+    let second : k ≡ d / greatest_common_divisor (unsigned_abs n) d = ek ∙ ap (λ x. d / x) same in
+    (λ i. record { numerator = first i; denominator = second i })
+
+-- the product of two numbers of 63 bits has 126
+pub unsigned_abs-times : (a b : ℤ) → unsigned_abs a < 2 ^ 63 → unsigned_abs b < 2 ^ 63 → unsigned_abs (a *ℤ b) < 2 ^ 126
+unsigned_abs-times a b h k = subst (λ n. n < 2 ^ 126) (sym (unsigned_abs-mul a b)) (mul-lt (unsigned_abs a) (unsigned_abs b) (2 ^ 63) (2 ^ 63) h k)
+
+pub int_div_euclid-pos : (n : ℤ) (m : ℤ) (d : ℕ) → m ≡ pos d → int_div_euclid n m ≡ divided_down n d
+int_div_euclid-pos (pos n) m d e = ap (int_div_euclid (pos n)) e
+int_div_euclid-pos (negsuc n) m d e = ap (int_div_euclid (negsuc n)) e
+
+pub ruleset euclidean = int_div_euclid-pos

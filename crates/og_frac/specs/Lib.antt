@@ -1,0 +1,5 @@
+pub mod Fraction
+pub mod Wide
+pub mod Frac
+pub mod Text
+pub mod Terms
