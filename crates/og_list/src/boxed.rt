@@ -44,3 +44,18 @@ impl<T> Boxed<T> {
         Box::into_inner(held)
     }
 }
+
+/// Boxes are equal where what they hold is equal.
+impl<T: PartialEq> PartialEq for Boxed<T> {
+    ghost eq = { T.eq };
+
+    ghost laws = { T.laws };
+
+    fn eq(&self, other: &Self) -> bool {
+        *self.held == *other.held
+    }
+}
+
+impl<T: Eq> Eq for Boxed<T> {
+    ghost laws = { T.Eq.laws };
+}

@@ -1,4 +1,4 @@
-ghost use Rattle.std.specs.Prelude.{◌≡◌, ◌<◌, ◌↔◌, [], ◌∷◌, ◌++◌, length, slice_get, slice_set, IsTrue, MatchOption, IfErr, OnErr, OnOk, OnSome, IsSome};
+ghost use Rattle.std.specs.Prelude.{◌≡◌, ◌<◌, ◌↔◌, [], ◌∷◌, ◌++◌, length, slice_get, slice_set, IsTrue, MatchOption, IfErr, IfOk, OnErr, OnOk, OnSome, IsSome};
 ghost use Rattle.std.specs.Option.{option_copied};
 
 use std::alloc::{AllocError, Global};
@@ -82,6 +82,15 @@ impl<T> List<T> {
 }
 
 impl<T: Copy> List<T> {
+    /// A list of these items, in order, in memory of its own.
+    pub fn from_slice(alloc: Global, items: &[T]) -> Result<List<T>, AllocError>
+        ensures { IfOk result (λ made. made ≡ items.now) }
+    {
+        let mut made = List::new(alloc);
+        made.extend_from_slice(items)?;
+        Ok(made)
+    }
+
     /// Adds all of `items` at the end, in order. A refusal is for want of memory, and changes nothing.
     pub fn extend_from_slice(&mut self, items: &[T]) -> Result<(), AllocError>
         ensures ok { OnOk result (self.new ≡ self.old ++ items.now) }
@@ -108,4 +117,23 @@ impl<T: Drop> List<T> {
         self.held.push(item)?;
         Ok(())
     }
+}
+
+/// Lists are equal where they are as long and their items are equal, place by place.
+impl<T: PartialEq> PartialEq for List<T> {
+    ghost use Rattle.std.specs.Cmp.Lexicographic.{pointwise, lists_per};
+
+    ghost eq = { λ xs ys. pointwise T.eq xs ys };
+
+    ghost laws = { lists_per T.laws };
+
+    fn eq(&self, other: &Self) -> bool {
+        self.held == other.held
+    }
+}
+
+impl<T: Eq> Eq for List<T> {
+    ghost use Rattle.std.specs.Cmp.Lexicographic.{lists_equiv};
+
+    ghost laws = { lists_equiv T.Eq.laws };
 }

@@ -169,3 +169,25 @@ fn lists_and_texts(rt: HostRuntime) -> Result<(), Fail> {
     assert_eq!(rt; boxed.into_inner(), 5);
     Ok(())
 }
+
+/// Whether two values are equal, by the bound alone.
+fn same<T: Eq>(first: &T, second: &T) -> bool {
+    first == second
+}
+
+#[test]
+fn equal_where_they_hold_the_same(rt: HostRuntime) -> Result<(), Fail> {
+    let alloc = rt.alloc();
+    let list = List::from_slice(alloc, &[1u8, 2])?;
+    assert!(rt; same(&list, &List::from_slice(alloc, &[1, 2])?));
+    assert!(rt; !same(&list, &List::from_slice(alloc, &[1])?));
+    assert!(rt; !same(&list, &List::from_slice(alloc, &[2, 1])?));
+    let boxed = Boxed::new(alloc, list).ok().ok_or("memory")?;
+    let other = Boxed::new(alloc, List::new(alloc)).ok().ok_or("memory")?;
+    assert!(rt; same(&boxed, &boxed));
+    assert!(rt; !same(&boxed, &other));
+    let text = Text::from(alloc, "ab")?;
+    assert!(rt; same(&text, &text.copy(alloc)?));
+    assert!(rt; !same(&text, &Text::from(alloc, "a")?));
+    Ok(())
+}

@@ -56,3 +56,24 @@ impl Text {
         self.held.push_str(s)
     }
 }
+
+/// Texts are equal where their bytes are.
+impl PartialEq for Text {
+    ghost use Rattle.std.specs.Cmp.Lexicographic.{pointwise};
+    ghost use Rattle.std.specs.Cmp.Rules.{comparing};
+    ghost use Rattle.std.specs.Prelude.{nat_eq};
+
+    ghost eq = { pointwise nat_eq };
+
+    ghost laws = { Prim.search comparing };
+
+    fn eq(&self, other: &Self) -> bool {
+        self.as_str() == other.as_str()
+    }
+}
+
+impl Eq for Text {
+    ghost use Rattle.std.specs.Cmp.Rules.{comparing};
+
+    ghost laws = { Prim.search comparing };
+}
