@@ -1,0 +1,56 @@
+-- What definitions on types say at each form, and induction on types.
+use Rattle.std.proofs.Common.{◌≡◌, ℕ, ℤ, Bool, List, [], ◌∷◌, map, ap, sym, subst, ◌∙◌, refl}
+use Rattle.std.specs.Prelude.{Option}
+use Rattle.std.specs.Option.{option_map}
+use Rattle.std.specs.List.{AllByRecursion}
+use Rattle.std.specs.Cmp.Lexicographic.{pointwise}
+use Rattle.og_types.specs.declared.value.Value.{Value}
+use Rattle.og_types.specs.declared.value.Value.TheViews.{out-Value}
+use Rattle.og_types.specs.declared.value.Value.TheVariants as value
+use Rattle.og_types.specs.declared.ty.Ty.{Ty}
+use Rattle.og_types.specs.declared.ty.Ty.TheOpen.{Ty-F}
+use Rattle.og_types.specs.declared.ty.Ty.TheOpen as one
+use Rattle.og_types.specs.declared.ty.Ty.TheViews.{out-Ty, roll-Ty}
+use Rattle.og_types.specs.declared.ty.Ty.TheFolds.{fold-Ty, fold-roll-Ty, map-Ty, ind-Ty}
+use Rattle.og_types.specs.declared.ty.Ty.TheVariants as ty
+use Rattle.og_types.specs.Ty.{same, same_step, fits, fits_step, holds, holds_step, is_finite, is_finite_step, bounds_fit, bounds_fit_step, join, join_step, joins}
+use Rattle.og_types.specs.Values.{values_of, values_step, joint_values_of}
+use Rattle.og_types.proofs.Lists.{pointwise-map}
+
+-- each of the parts beside its proof
+proofs_of : (P : Ty → Type 0) (es : List ((t : Ty) × P t)) → AllByRecursion P (map (λ e. e.0) es)
+proofs_of P [] = tt
+proofs_of P (e ∷ es) = (e.1, proofs_of P es)
+
+-- a fact that holds of each form where it holds of the parts
+pub type_induction : (P : Ty → Type 0) → ((family cases : ℕ) → P (ty.Enum family cases)) → P ty.Bool → ((low high : ℤ) → P (ty.Range low high)) → ((parts : List Ty) → AllByRecursion P parts → P (ty.Tuple parts)) → P ty.Number → (t : Ty) → P t
+type_induction P on_enum on_bool on_range on_tuple on_number = ind-Ty P (λ x y is. subst (λ z. P (roll-Ty z)) is (step y))
+  where
+    step : (y : Ty-F ((t : Ty) × P t)) → P (roll-Ty (map-Ty ((t : Ty) × P t) Ty (λ e. e.0) y))
+    step (one.Enum family cases) = subst P (sym (ty.rolls-Enum family cases)) (on_enum family cases)
+    step one.Bool = subst P (sym ty.rolls-Bool) on_bool
+    step (one.Range low high) = subst P (sym (ty.rolls-Range low high)) (on_range low high)
+    step (one.Tuple es) = subst P (sym (ty.rolls-Tuple (map (λ e. e.0) es))) (on_tuple (map (λ e. e.0) es) (proofs_of P es))
+    step one.Number = subst P (sym ty.rolls-Number) on_number
+
+-- a definition at a tuple of types
+pub fold_tuple : (A : Type 0) (step : Ty-F A → A) (ts : List Ty) → fold-Ty A step (ty.Tuple ts) ≡ step (one.Tuple (map (fold-Ty A step) ts))
+fold_tuple A step ts = ap (fold-Ty A step) (sym (ty.rolls-Tuple ts)) ∙ fold-roll-Ty A step (one.Tuple ts)
+
+-- a definition of two types at two tuples
+fold_tuples : (A : Type 0) (step : Ty-F (Ty → A) → Ty-F Ty → A) (ts us : List Ty) → fold-Ty (Ty → A) (λ t u. step t (out-Ty u)) (ty.Tuple ts) (ty.Tuple us) ≡ step (one.Tuple (map (fold-Ty (Ty → A) (λ t u. step t (out-Ty u))) ts)) (one.Tuple us)
+fold_tuples A step ts us =
+    (λ i. fold_tuple (Ty → A) (λ t u. step t (out-Ty u)) ts i (ty.Tuple us)) ∙ ap (step (one.Tuple (map (fold-Ty (Ty → A) (λ t u. step t (out-Ty u))) ts))) (ty.outs-Tuple us)
+
+pub same_tuples : (ts us : List Ty) → same (ty.Tuple ts) (ty.Tuple us) ≡ pointwise same ts us
+same_tuples ts us = fold_tuples Bool same_step ts us ∙ pointwise-map same (λ part other. part other) ts us
+
+pub fits_tuples : (ts us : List Ty) → fits (ty.Tuple ts) (ty.Tuple us) ≡ pointwise fits ts us
+fits_tuples ts us = fold_tuples Bool fits_step ts us ∙ pointwise-map fits (λ part other. part other) ts us
+
+pub holds_tuples : (ts : List Ty) (vs : List Value) → holds (ty.Tuple ts) (value.Tuple vs) ≡ pointwise holds ts vs
+holds_tuples ts vs =
+    (λ i. fold_tuple (Value → Bool) (λ t v. holds_step t (out-Value v)) ts i (value.Tuple vs)) ∙ ap (holds_step (one.Tuple (map holds ts))) (value.outs-Tuple vs) ∙ pointwise-map holds (λ part v. part v) ts vs
+
+pub join_tuples : (ts us : List Ty) → join (ty.Tuple ts) (ty.Tuple us) ≡ option_map ty.Tuple (joins (map join ts) us)
+join_tuples ts us = fold_tuples (Option Ty) join_step ts us
