@@ -1,76 +1,34 @@
--- Laws of the order of fractions and of rounding down.
-use Rattle.std.proofs.Common.{◌≡◌, ℕ, ◌+◌, ◌*◌, ◌/◌, ◌<◌, ℤ, pos, negsuc, Bool, true, false, cond, arith, refl, sym, ◌∙◌}
-use Rattle.std.specs.Prelude.{◌+ℤ◌, ◌*ℤ◌, ◌<ℤ◌, ◌≤ℤ◌, ◌↔◌}
-use Rattle.std.specs.Int.RustNames.{int_lt}
-use Rattle.std.specs.Ordering.{int_cmp, ordering_reverse}
+-- Laws of rounding down, and what the total order is on fractions in lowest terms.
+use Rattle.std.proofs.Common.{◌≡◌, ℕ, ◌/◌, ◌<◌, ℤ, pos, negsuc, arith, refl, sym, ap, ◌∙◌, max}
+use Rattle.std.specs.Prelude.{◌+ℤ◌, ◌*ℤ◌, ◌<ℤ◌, ◌≤ℤ◌}
+use Rattle.std.specs.Ordering.{nat_cmp, ordering_then}
+use Rattle.std.specs.declared.cmp.Ordering.{Ordering}
+use Rattle.std.proofs.lemmas.Cmp.{nat_cmp_total, tied_itself}
 use Rattle.std.specs.declared.cmp.Ordering.TheVariants.{Less, Equal, Greater}
-use Rattle.std.proofs.Math.Nat.{mul-lt-mul_of_pos_right, lt_of_mul-lt-mul_right, div-mul-le_self, lt-div-mul-add}
+use Rattle.std.proofs.Math.Nat.{div-mul-le_self, lt-div-mul-add}
 use Rattle.std.proofs.lemmas.Int.{ints}
-use borrow.Author.Differences.{up, down, below_in, lt_out}
-use Rattle.og_frac.specs.Fraction.{Fraction, SameNumber, order, floor, divided_down}
-use Rattle.og_frac.proofs.Integers.{times-times, times-add, times_same}
+use Rattle.og_frac.specs.Fraction.{Fraction, order, over_positive, total_order, IsInLowestTerms, floor, divided_down}
+use Rattle.og_frac.specs.Integers.{times-add}
+use Rattle.og_frac.specs.Orders.{order_equal}
+use Rattle.og_frac.proofs.Rationals.{same_from_SameNumber}
 
-pub int_cmp_reversed : (x y : ℤ) → int_cmp x y ≡ ordering_reverse (int_cmp y x)
-int_cmp_reversed x y = by (int_lt x y) (int_lt y x) refl refl
+-- of fractions in lowest terms it is the order by number
+total_order_is-by : (a b : Fraction) → IsInLowestTerms a → IsInLowestTerms b → over_positive a ≡ a → over_positive b ≡ b → total_order a b ≡ order a b
+total_order_is-by a b p q first second =
+    (λ i. ordering_then (order (first i) (second i)) (nat_cmp a.denominator b.denominator)) ∙ by (order a b) refl
   where
-    by : (s t : Bool) → int_lt x y ≡ s → int_lt y x ≡ t → cond s Less (cond t Greater Equal) ≡ ordering_reverse (cond t Less (cond s Greater Equal))
-    by true true e f = absurd (omega (arith, ints))
-    by true false e f = refl
-    by false true e f = refl
-    by false false e f = refl
+    by : (r : Ordering) → order a b ≡ r → ordering_then r (nat_cmp a.denominator b.denominator) ≡ r
+    by Less e = refl
+    by Greater e = refl
+    by Equal e =
+        let same = same_from_SameNumber a b p q ((order_equal a b).0 e) in
+        ap (λ x. nat_cmp a.denominator x.denominator) (sym same) ∙ tied_itself nat_cmp_total a.denominator
 
-pub int_cmp_equal : (x y : ℤ) → (int_cmp x y ≡ Equal) ↔ (x ≡ y)
-int_cmp_equal x y = by (int_lt x y) (int_lt y x) refl refl
-  where
-    by : (s t : Bool) → int_lt x y ≡ s → int_lt y x ≡ t → (cond s Less (cond t Greater Equal) ≡ Equal) ↔ (x ≡ y)
-    by true t e f = (λ h. absurd (cc), λ h. absurd (omega (arith, ints)))
-    by false true e f = (λ h. absurd (cc), λ h. absurd (omega (arith, ints)))
-    by false false e f = (λ h. omega (arith, ints), λ h. refl)
+positive_is : (q : Fraction) → 0 < q.denominator → over_positive q ≡ q
+positive_is q h = let e : max 1 q.denominator ≡ q.denominator = omega arith in (λ i. record { numerator = q.numerator; denominator = e i })
 
-pub int_cmp_less : (x y : ℤ) → (int_cmp x y ≡ Less) ↔ (x <ℤ y)
-int_cmp_less x y = by (int_lt x y) (int_lt y x) refl refl
-  where
-    by : (s t : Bool) → int_lt x y ≡ s → int_lt y x ≡ t → (cond s Less (cond t Greater Equal) ≡ Less) ↔ (x <ℤ y)
-    by true t e f = (λ h. omega (arith, ints), λ h. refl)
-    by false true e f = (λ h. absurd (cc), λ h. absurd (omega (arith, ints)))
-    by false false e f = (λ h. absurd (cc), λ h. absurd (omega (arith, ints)))
-
-times_less : (a b : ℤ) (k : ℕ) → 0 < k → a <ℤ b → (a *ℤ pos k) <ℤ (b *ℤ pos k)
-times_less a b k some h =
-    let sides : up a + down b < up b + down a = lt_out a b h in
-    let times : (up a + down b) * k < (up b + down a) * k = mul-lt-mul_of_pos_right sides some in
-    omega (arith, ints)
-
-less_times : (a b : ℤ) (k : ℕ) → (a *ℤ pos k) <ℤ (b *ℤ pos k) → a <ℤ b
-less_times a b k h =
-    let times : (up a + down b) * k < (up b + down a) * k = omega (arith, ints) in
-    below_in a b (lt_of_mul-lt-mul_right k times)
-
-pub order_reversed : (a b : Fraction) → order a b ≡ ordering_reverse (order b a)
-unfolding order
-order_reversed a b = int_cmp_reversed (a.numerator *ℤ pos b.denominator) (b.numerator *ℤ pos a.denominator)
-
-pub order_equal : (a b : Fraction) → (order a b ≡ Equal) ↔ SameNumber a b
-unfolding order
-order_equal a b = int_cmp_equal (a.numerator *ℤ pos b.denominator) (b.numerator *ℤ pos a.denominator)
-
-pub order_less : (a b : Fraction) → (order a b ≡ Less) ↔ ((a.numerator *ℤ pos b.denominator) <ℤ (b.numerator *ℤ pos a.denominator))
-unfolding order
-order_less a b = int_cmp_less (a.numerator *ℤ pos b.denominator) (b.numerator *ℤ pos a.denominator)
-
-pub order_transitive : (a b c : Fraction) → 0 < a.denominator → 0 < b.denominator → 0 < c.denominator → order a b ≡ Less → order b c ≡ Less → order a c ≡ Less
-order_transitive a b c p q r h k =
-    let x = a.denominator in
-    let y = b.denominator in
-    let z = c.denominator in
-    let first : (a.numerator *ℤ pos y *ℤ pos z) <ℤ (b.numerator *ℤ pos x *ℤ pos z) = times_less _ _ z r ((order_less a b).0 h) in
-    let second : (b.numerator *ℤ pos z *ℤ pos x) <ℤ (c.numerator *ℤ pos y *ℤ pos x) = times_less _ _ x p ((order_less b c).0 k) in
-    let turned : (n : ℤ) (j i : ℕ) → n *ℤ pos j *ℤ pos i ≡ n *ℤ pos i *ℤ pos j =
-    λ n j i. times-times n j i ∙ times_same n (j * i) (i * j) (omega arith) ∙ sym (times-times n i j) in
-    let low = turned a.numerator y z in
-    let middle = turned b.numerator x z in
-    let high = turned c.numerator y x in
-    (order_less a c).1 (less_times _ _ y (omega (arith, ints)))
+pub total_order_is : (a b : Fraction) → IsInLowestTerms a → IsInLowestTerms b → total_order a b ≡ order a b
+total_order_is a b p q = total_order_is-by a b p q (positive_is a p.positive) (positive_is b q.positive)
 
 pub floor_at_most : (q : Fraction) → 0 < q.denominator → (floor q *ℤ pos q.denominator) ≤ℤ q.numerator
 unfolding floor

@@ -1,5 +1,9 @@
 ghost use Rattle.std.specs.Prelude.{◌≡◌, ◌<◌, ◌^◌, ◌↔◌, ◌≢◌, ◌+ℤ◌, ◌-ℤ◌, ◌*ℤ◌, pos, unsigned_abs, Ok, Err, Some};
-ghost use Rattle.og_frac.specs.Fraction.{Fraction, in_lowest_terms, IsFrac, sum, difference, product, quotient, sign, order, floor};
+ghost use Rattle.og_frac.specs.Fraction.{Fraction, in_lowest_terms, IsFrac, sum, difference, product, quotient, sign, order, total_order, floor};
+ghost use Rattle.std.specs.Ordering.{as_partial_cmp};
+ghost use Rattle.std.proofs.Common.{refl};
+ghost use Rattle.og_frac.specs.Orders.{total_order_total, total_order_equal};
+ghost use Rattle.std.specs.Cmp.{partial_order_from_agreeing_total};
 ghost use Rattle.og_frac.specs.Frac.{IsExact};
 ghost use Rattle.og_frac.specs.Text.{text};
 
@@ -162,22 +166,46 @@ impl Frac {
         fitted(turned(num, by.num), u128::from(self.den) * size)
     }
 
-    /// The order of the two numbers: two products.
-    #[tactic(auto, unfolding(crate::specs::Fraction::order))]
-    pub fn cmp(&self, other: &Frac) -> Ordering
-        ensures { result ≡ order self.now other.now }
-    {
-        let first = multiplied(i128::from(self.num), i128::from(other.den));
-        let second = multiplied(i128::from(other.num), i128::from(self.den));
-        first.cmp(&second)
-    }
-
     /// The greatest whole number that is not above the fraction: one division.
     #[tactic(auto, using(crate::proofs::LowestTerms::euclidean), unfolding(crate::specs::Fraction::floor))]
     pub fn floor(self) -> i64
         ensures { result ≡ floor self }
     {
         self.num.div_euclid(self.den as i64)
+    }
+}
+
+/// By value: two products.
+impl Ord for Frac {
+    ghost cmp = { total_order };
+
+    ghost total = { total_order_total };
+
+    ghost matches_partial_cmp = { λ a b. refl };
+
+    ghost matches_eq = { total_order_equal };
+
+    #[tactic(auto, unfolding(crate::specs::Fraction::order))]
+    fn cmp(&self, other: &Frac) -> Ordering
+        ensures value { result ≡ order self.now other.now }
+        ensures total { result ≡ total_order self.now other.now }
+    {
+        let first = multiplied(i128::from(self.num), i128::from(other.den));
+        let second = multiplied(i128::from(other.num), i128::from(self.den));
+        first.cmp(&second)
+    }
+}
+
+impl PartialOrd for Frac {
+    ghost partial_cmp = { as_partial_cmp total_order };
+
+    ghost laws = { partial_order_from_agreeing_total total_order total_order_total (λ a b. refl) total_order_equal };
+
+    fn partial_cmp(&self, other: &Frac) -> Option<Ordering>
+        ensures value { result ≡ Some (order self.now other.now) }
+        ensures total { result ≡ as_partial_cmp total_order self.now other.now }
+    {
+        Some(self.cmp(other))
     }
 }
 

@@ -1,3 +1,5 @@
+ghost use Rattle.std.specs.Prelude.{◌≡◌, ◌↔◌, IsTrue};
+
 use crate::{Frac, FracFault, Sum, SumFault, Term, Wide};
 use std::alloc::Global;
 use std::cmp::Ordering;
@@ -15,6 +17,13 @@ fn parts(answer: Result<Frac, FracFault>) -> Result<(i64, u64), FracFault> {
 
 fn frac(rt: &impl Abort, n: i64, d: u64) -> Frac {
     Frac::new(n, d).expect(rt, "a fraction that fits")
+}
+
+/// `==` tells whether two fractions are the same.
+fn same(a: Frac, b: Frac) -> bool
+    ensures { IsTrue result ↔ (a ≡ b) }
+{
+    a == b
 }
 
 #[test]

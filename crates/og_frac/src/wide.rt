@@ -10,6 +10,8 @@ pub struct Wide {
     pub num: i128,
     /// The denominator, above 0.
     pub den: u128,
+    /// The denominator is above 0, and the two have no common divisor but 1.
+    pub ghost lowest: { IsInLowestTerms (record { numerator = num; denominator = den }) },
 }
 
 impl Wide {
