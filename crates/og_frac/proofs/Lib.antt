@@ -3,5 +3,6 @@ pub mod LowestTerms
 pub mod Multiples
 pub mod TermLaws
 pub mod Rationals
-pub mod Orders
+pub mod Floors
+pub mod TotalOrder
 pub mod TermSums

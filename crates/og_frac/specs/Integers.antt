@@ -1,4 +1,4 @@
--- Laws of integers times natural numbers.
+-- Laws of integers times natural numbers, by which the laws of the order are proved.
 use Rattle.std.proofs.Common.{◌≡◌, ℕ, zero, suc, ◌+◌, ◌*◌, ◌<◌, ℤ, pos, negsuc, arith, refl, sym, ap, ◌∙◌}
 use Rattle.std.specs.Prelude.{◌+ℤ◌, ◌*ℤ◌}
 use Rattle.std.proofs.Math.IntN.{neg_ℤ}

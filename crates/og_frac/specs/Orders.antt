@@ -1,4 +1,5 @@
--- Laws of the order of fractions, and that the total order is one.
+-- Laws of the order of fractions, and that the total order is one. They stand here and not in proofs/
+-- since the impls of Ord and PartialOrd cite them.
 use Rattle.std.proofs.Common.{◌≡◌, ℕ, ◌+◌, ◌*◌, ◌<◌, ℤ, pos, Bool, true, false, cond, arith, refl, sym, ap, ◌∙◌, max}
 use Rattle.std.specs.Prelude.{◌*ℤ◌, ◌<ℤ◌, ◌↔◌, ◌==◌, ◌&&◌, nat_lt}
 use Rattle.std.specs.Int.RustNames.{int_lt}
@@ -6,22 +7,13 @@ use Rattle.std.specs.Ordering.{int_cmp, nat_cmp, ordering_reverse, ordering_then
 use Rattle.std.specs.declared.cmp.Ordering.{Ordering}
 use Rattle.std.proofs.lemmas.Bool.Decides.{nat_tests}
 use Rattle.std.specs.Cmp.{IsTotalOrder}
-use Rattle.std.proofs.lemmas.Cmp.{nat_cmp_total, on_total, then_total, tied_itself}
+use Rattle.std.proofs.lemmas.Cmp.{nat_cmp_total, int_cmp_total, on_total, then_total, tied_itself}
 use Rattle.std.specs.declared.cmp.Ordering.TheVariants.{Less, Equal, Greater}
 use Rattle.std.proofs.Math.Nat.{mul-lt-mul_of_pos_right, lt_of_mul-lt-mul_right}
 use Rattle.std.proofs.lemmas.Int.{ints}
 use borrow.Author.Differences.{up, down, below_in, lt_out}
 use Rattle.og_frac.specs.Fraction.{Fraction, SameNumber, order, over_positive, total_order}
 use Rattle.og_frac.specs.Integers.{turned}
-
-pub int_cmp_reversed : (x y : ℤ) → int_cmp x y ≡ ordering_reverse (int_cmp y x)
-int_cmp_reversed x y = by (int_lt x y) (int_lt y x) refl refl
-  where
-    by : (s t : Bool) → int_lt x y ≡ s → int_lt y x ≡ t → cond s Less (cond t Greater Equal) ≡ ordering_reverse (cond t Less (cond s Greater Equal))
-    by true true e f = absurd (omega (arith, ints))
-    by true false e f = refl
-    by false true e f = refl
-    by false false e f = refl
 
 pub int_cmp_equal : (x y : ℤ) → (int_cmp x y ≡ Equal) ↔ (x ≡ y)
 int_cmp_equal x y = by (int_lt x y) (int_lt y x) refl refl
@@ -52,7 +44,7 @@ less_times a b k h =
 
 pub order_reversed : (a b : Fraction) → order a b ≡ ordering_reverse (order b a)
 unfolding order
-order_reversed a b = int_cmp_reversed (a.numerator *ℤ pos b.denominator) (b.numerator *ℤ pos a.denominator)
+order_reversed a b = int_cmp_total.antisymm (a.numerator *ℤ pos b.denominator) (b.numerator *ℤ pos a.denominator)
 
 pub order_equal : (a b : Fraction) → (order a b ≡ Equal) ↔ SameNumber a b
 unfolding order
@@ -82,8 +74,8 @@ int_cmp-times x y k some = by (int_cmp x y) refl
     by Less e = (int_cmp_less (x *ℤ pos k) (y *ℤ pos k)).1 (times_less x y k some ((int_cmp_less x y).0 e))
     by Equal e = (int_cmp_equal (x *ℤ pos k) (y *ℤ pos k)).1 (ap (λ n. n *ℤ pos k) ((int_cmp_equal x y).0 e))
     by Greater e =
-        let less = (int_cmp_less y x).0 (int_cmp_reversed y x ∙ ap ordering_reverse e) in
-        int_cmp_reversed (x *ℤ pos k) (y *ℤ pos k) ∙ ap ordering_reverse ((int_cmp_less (y *ℤ pos k) (x *ℤ pos k)).1 (times_less y x k some less))
+        let less = (int_cmp_less y x).0 (int_cmp_total.antisymm y x ∙ ap ordering_reverse e) in
+        int_cmp_total.antisymm (x *ℤ pos k) (y *ℤ pos k) ∙ ap ordering_reverse ((int_cmp_less (y *ℤ pos k) (x *ℤ pos k)).1 (times_less y x k some less))
 
 -- fractions of one number are alike in the order
 order_alike : (a b c : Fraction) → 0 < a.denominator → 0 < b.denominator → SameNumber a b → order a c ≡ order b c

@@ -15,6 +15,9 @@ use std::marker::Model;
 
 /// A rational number in lowest terms, with the sign in the numerator. Both parts are below 2^63 in
 /// size, so a product of two of them has 126 bits and a sum of two products 127.
+///
+/// Each operation takes a constant number of operations on words of at most 128 bits, and beside them
+/// at most one greatest common divisor, which it names.
 #[derive(Clone, Copy, Debug, PartialEq, Eq)]
 pub struct Frac {
     num: i64,
@@ -90,7 +93,8 @@ fn turned(number: i128, other: i64) -> i128
 }
 
 impl Frac {
-    /// The fraction n/d in lowest terms: one greatest common divisor.
+    /// The fraction n/d in lowest terms: one greatest common divisor, of n's size and d, and none where
+    /// d is 0.
     pub fn new(n: i64, d: u64) -> Result<Frac, FracFault>
         ensures zero { (result ≡ Err FracFault.Zero) ↔ (d ≡ 0) }
         ensures exact { 0 < d → IsExact result (in_lowest_terms (record { numerator = n; denominator = d })) }
@@ -101,7 +105,7 @@ impl Frac {
         fitted(i128::from(n), u128::from(d))
     }
 
-    /// The numerator, with the sign.
+    /// The numerator, with the sign: no greatest common divisor.
     pub fn num(&self) -> i64
         ensures value { result ≡ self.now.numerator }
         ensures fraction { IsFrac self.now }
@@ -109,7 +113,7 @@ impl Frac {
         self.num
     }
 
-    /// The denominator, above 0.
+    /// The denominator, above 0: no greatest common divisor.
     pub fn den(&self) -> u64
         ensures value { result ≡ self.now.denominator }
         ensures fraction { IsFrac self.now }
@@ -117,7 +121,8 @@ impl Frac {
         self.den
     }
 
-    /// The sum: one greatest common divisor.
+    /// The sum: one greatest common divisor, of its numerator's size over the product of the
+    /// denominators and that product.
     #[tactic(auto, unfolding(crate::specs::Fraction::sum))]
     pub fn add(self, by: Frac) -> Result<Frac, FracFault>
         ensures exact { IsExact result (sum self by) }
@@ -130,7 +135,8 @@ impl Frac {
         )
     }
 
-    /// The difference: one greatest common divisor.
+    /// The difference: one greatest common divisor, of its numerator's size over the product of the
+    /// denominators and that product.
     #[tactic(auto, unfolding(crate::specs::Fraction::difference))]
     pub fn sub(self, by: Frac) -> Result<Frac, FracFault>
         ensures exact { IsExact result (difference self by) }
@@ -143,7 +149,8 @@ impl Frac {
         )
     }
 
-    /// The product: one greatest common divisor.
+    /// The product: one greatest common divisor, of the sizes of the products of the numerators and of
+    /// the denominators.
     #[tactic(auto, unfolding(crate::specs::Fraction::product))]
     pub fn mul(self, by: Frac) -> Result<Frac, FracFault>
         ensures exact { IsExact result (product self by) }
@@ -152,7 +159,8 @@ impl Frac {
         fitted(num, u128::from(self.den) * u128::from(by.den))
     }
 
-    /// The quotient, or what is given for it where the divisor is 0: one greatest common divisor.
+    /// The quotient, or what is given for it where the divisor is 0: one greatest common divisor, of the
+    /// two products crosswise, and none where the divisor is 0.
     #[tactic(auto, unfolding(crate::specs::Fraction::quotient))]
     pub fn ratio(self, by: Frac, otherwise: Frac) -> Result<Frac, FracFault>
         ensures zero { by.numerator ≡ pos 0 → result ≡ Ok otherwise }
@@ -166,7 +174,8 @@ impl Frac {
         fitted(turned(num, by.num), u128::from(self.den) * size)
     }
 
-    /// The greatest whole number that is not above the fraction: one division.
+    /// The greatest whole number that is not above the fraction: one division and no greatest common
+    /// divisor.
     #[tactic(auto, using(crate::proofs::LowestTerms::euclidean), unfolding(crate::specs::Fraction::floor))]
     pub fn floor(self) -> i64
         ensures { result ≡ floor self }
@@ -175,7 +184,7 @@ impl Frac {
     }
 }
 
-/// By value: two products.
+/// By value: two products and no greatest common divisor.
 impl Ord for Frac {
     ghost cmp = { total_order };
 
@@ -209,7 +218,7 @@ impl PartialOrd for Frac {
     }
 }
 
-/// Prints `n` for a whole number, and `n/d` otherwise.
+/// Prints `n` for a whole number, and `n/d` otherwise: no greatest common divisor.
 impl fmt::Display for Frac {
     ghost output = { λ q. Some (text q) };
 

@@ -1,5 +1,5 @@
 use Rattle.og_frac.specs.Orders.{order_reversed, order_equal, order_less, order_transitive}
-use Rattle.og_frac.proofs.Orders.{total_order_is}
+use Rattle.og_frac.proofs.TotalOrder.{total_order_is}
 use Rattle.og_frac.proofs.laws.orders.Goals as goal
 
 pub returns-clause-reversed : goal.returns-clause-reversed

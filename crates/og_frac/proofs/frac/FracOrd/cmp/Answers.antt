@@ -1,6 +1,6 @@
 use Rattle.std.proofs.Common.{◌≡◌, rules, sym, subst, ◌∙◌}
 use Rattle.og_frac.specs.Fraction.{IsInLowestTerms, order}
-use Rattle.og_frac.proofs.Orders.{total_order_is}
+use Rattle.og_frac.proofs.TotalOrder.{total_order_is}
 use Rattle.og_frac.proofs.frac.FracOrd.cmp.Goals as goal
 
 pub returns-clause-total : goal.returns-clause-total
