@@ -2,7 +2,7 @@ pub mod Divisors
 pub mod LowestTerms
 pub mod Multiples
 pub mod TermLaws
-pub mod Integers
 pub mod Rationals
-pub mod Orders
+pub mod Floors
+pub mod TotalOrder
 pub mod TermSums

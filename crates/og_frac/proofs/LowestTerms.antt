@@ -35,15 +35,15 @@ in_lowest_terms_is q h =
     }
 
 -- what a size, a common divisor and a sign give
-pub lowest_from_parts : (n m : ℤ) (d s g k : ℕ) → s ≡ unsigned_abs n → g ≡ greatest_common_divisor s d → m ≡ sign n *ℤ pos (s / g) → k ≡ d / g
-    → record { numerator = m; denominator = k } ≡ in_lowest_terms (record { numerator = n; denominator = d })
+pub lowest_from_parts : (n read signed m : ℤ) (d s g : ℕ) → read ≡ n → s ≡ unsigned_abs read → g ≡ greatest_common_divisor s d → signed ≡ sign read *ℤ pos (s / g) → m ≡ signed
+    → record { numerator = m; denominator = d / g } ≡ in_lowest_terms (record { numerator = n; denominator = d })
 unfolding in_lowest_terms
-lowest_from_parts n m d s g k es eg em ek =
-    let same : g ≡ greatest_common_divisor (unsigned_abs n) d = eg ∙ ap (λ x. greatest_common_divisor x d) es in
+lowest_from_parts n read signed m d s g er es eg ed em =
+    let size : s ≡ unsigned_abs n = es ∙ ap unsigned_abs er in
+    let same : g ≡ greatest_common_divisor (unsigned_abs n) d = eg ∙ ap (λ x. greatest_common_divisor x d) size in
     let first : m ≡ int_div n (pos (greatest_common_divisor (unsigned_abs n) d)) =
-    em ∙ (λ i. sign n *ℤ pos (es i / same i)) ∙ sign-div n _ in
-    let second : k ≡ d / greatest_common_divisor (unsigned_abs n) d = ek ∙ ap (λ x. d / x) same in
-    (λ i. record { numerator = first i; denominator = second i })
+    em ∙ ed ∙ (λ i. sign (er i) *ℤ pos (size i / same i)) ∙ sign-div n _ in
+    (λ i. record { numerator = first i; denominator = d / same i })
 
 -- the product of two numbers of 63 bits has 126
 pub unsigned_abs-times : (a b : ℤ) → unsigned_abs a < 2 ^ 63 → unsigned_abs b < 2 ^ 63 → unsigned_abs (a *ℤ b) < 2 ^ 126

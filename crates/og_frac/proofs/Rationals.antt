@@ -8,14 +8,13 @@ use Rattle.std.proofs.lemmas.Int.{unsigned_abs-mul}
 use Rattle.og_frac.specs.Fraction.{Fraction, in_lowest_terms, IsInLowestTerms, SameNumber, sum, whole}
 use Rattle.og_frac.proofs.Divisors.{greatest_common_divisor_is, greatest_common_divisor_from, divides_other}
 use Rattle.og_frac.proofs.LowestTerms.{in_lowest_terms_is}
-use Rattle.og_frac.proofs.Integers.{neg-times, times-times, times-add, times_cancel, times_same}
+use Rattle.og_frac.specs.Integers.{neg-times, times-times, times-add, times_cancel, times_same, turned}
 
 pub SameNumber_trans : (a b c : Fraction) → 0 < b.denominator → SameNumber a b → SameNumber b c → SameNumber a c
 SameNumber_trans a b c some p q =
     let x = a.denominator in
     let y = b.denominator in
     let z = c.denominator in
-    let turned = λ (n : ℤ) (j k : ℕ). times-times n j k ∙ times_same n (j * k) (k * j) (mul_comm j k) ∙ sym (times-times n k j) in
     times_cancel (a.numerator *ℤ pos z) (c.numerator *ℤ pos x) y some
     (turned a.numerator z y ∙ ap (λ n. n *ℤ pos z) p ∙ turned b.numerator x z ∙ ap (λ n. n *ℤ pos x) q ∙ turned c.numerator y x)
 

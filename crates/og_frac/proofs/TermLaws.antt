@@ -1,15 +1,16 @@
 -- Laws of the sums of terms.
-use Rattle.std.proofs.Common.{◌≡◌, ℕ, zero, suc, ◌+◌, ◌*◌, ◌/◌, ◌^◌, ◌<◌, ◌≤◌, ℤ, pos, negsuc, List, [], ◌∷◌, ◌++◌, length, take, drop, get_or, arith, refl, sym, ap, subst, ◌∙◌, ◌-◌, add-one}
+use Rattle.std.proofs.Common.{◌≡◌, ℕ, suc, ◌+◌, ◌*◌, ◌/◌, ◌^◌, ◌<◌, ◌≤◌, ℤ, pos, negsuc, List, [], ◌∷◌, ◌++◌, length, take, drop, get_or, arith, refl, sym, ap, subst, ◌∙◌, ◌-◌, add-one}
 use Rattle.std.proofs.lemmas.List.{take_more}
 use Rattle.std.proofs.Math.IntN.{neg_ℤ}
 use Rattle.std.proofs.lemmas.Int.{ints}
 use Rattle.std.proofs.Math.Seq.{drop-cons}
-use Rattle.std.proofs.Math.Nat.{one-mul, zero-mul, mul_comm, le-div_iff_mul-le, div-lt_iff_lt-mul}
+use Rattle.std.proofs.Math.Nat.{one-mul, mul_comm, le-div_iff_mul-le, div-lt_iff_lt-mul}
 use Rattle.std.specs.Prelude.{◌+ℤ◌, ◌*ℤ◌, unsigned_abs, Option, Some, None}
 use Rattle.std.specs.Option.{ForSome}
 use Rattle.og_frac.specs.declared.terms.Term.{Term}
 use Rattle.og_frac.specs.Fraction.{IsFrac, least_common_multiple, sign}
 use Rattle.og_frac.specs.Terms.{common_denominator, value_over, absolute_over, part_over, size_over, AllFracs, IsBelowLimit}
+use Rattle.og_frac.specs.Integers.{neg-times}
 use Rattle.og_frac.proofs.Multiples.{least_common_multiple_positive, least_common_multiple_comm, least_common_multiple_assoc}
 
 pub common_denominator_positive : (ts : List Term) → AllFracs ts → 0 < common_denominator ts
@@ -50,10 +51,6 @@ absolute_over-step common ts i d lt = ap (absolute_over common) (drop-cons ts i 
 
 pub value_over-step : (common : ℕ) (ts : List Term) (i : ℕ) (d : Term) → i < length ts → value_over common (drop i ts) ≡ part_over common (get_or ts i d) +ℤ value_over common (drop (i + 1) ts)
 value_over-step common ts i d lt = ap (value_over common) (drop-cons ts i d lt) ∙ ap (λ n. part_over common (get_or ts i d) +ℤ value_over common (drop n ts)) (sym (add-one i))
-
-neg-times : (k s : ℕ) → neg_ℤ (pos k) *ℤ pos s ≡ neg_ℤ (pos (k * s))
-neg-times zero s = ap pos (zero-mul s) ∙ sym (ap (λ n. neg_ℤ (pos n)) (zero-mul s))
-neg-times (suc k) s = refl
 
 -- the size with the sign is the part
 pub sign-size : (w : ℕ) (n : ℤ) (s : ℕ) → sign n *ℤ pos (w * unsigned_abs n * s) ≡ pos w *ℤ n *ℤ pos s

@@ -13,7 +13,7 @@ use Rattle.og_frac.specs.declared.terms.Term.{Term}
 use Rattle.og_frac.specs.Fraction.{Fraction, SameNumber, least_common_multiple, in_lowest_terms, sum, product, whole}
 use Rattle.og_frac.specs.Terms.{common_denominator, value_over, absolute_over, part_over, size_over, total, IsPositive}
 use Rattle.og_frac.proofs.Multiples.{first_divides, second_divides, divides_common, least_common_multiple_positive, least_common_multiple_of_multiple}
-use Rattle.og_frac.proofs.Integers.{times-times, times-add, times_same}
+use Rattle.og_frac.specs.Integers.{times-times, times-add, times_same}
 use Rattle.og_frac.proofs.Rationals.{plain_sum, in_lowest_terms_same, sum_of_lowest, in_lowest_terms-zero}
 
 pub positive : (ts : List Term) → All IsPositive ts → 0 < common_denominator ts

@@ -1,6 +1,6 @@
 -- Fractions: rational numbers written with whole numbers that have no bound.
-use Rattle.std.specs.Prelude.{◌≡◌, ℕ, ◌+◌, ◌*◌, ◌/◌, ◌%◌, ◌^◌, ◌<◌, ℤ, pos, negsuc, ◌+ℤ◌, ◌-ℤ◌, ◌*ℤ◌, unsigned_abs, int_div, Bool, ◌==◌, ◌&&◌, if◌then◌else◌, zero, suc}
-use Rattle.std.specs.Ordering.{int_cmp}
+use Rattle.std.specs.Prelude.{◌≡◌, ℕ, ◌+◌, ◌*◌, ◌/◌, ◌%◌, ◌^◌, ◌<◌, ℤ, pos, negsuc, ◌+ℤ◌, ◌-ℤ◌, ◌*ℤ◌, unsigned_abs, int_div, Bool, ◌==◌, ◌&&◌, if◌then◌else◌, zero, suc, max}
+use Rattle.std.specs.Ordering.{int_cmp, nat_cmp, ordering_then}
 use Rattle.std.specs.declared.cmp.Ordering.{Ordering}
 
 -- a numerator over a denominator
@@ -88,6 +88,14 @@ quotient a b =
 -- by the numerators over a common denominator
 unfoldable pub order : Fraction → Fraction → Ordering
 order a b = int_cmp (a.numerator *ℤ pos b.denominator) (b.numerator *ℤ pos a.denominator)
+
+-- with a denominator of 0 read as 1
+abbrev pub over_positive : Fraction → Fraction
+over_positive q = record { numerator = q.numerator; denominator = max 1 q.denominator }
+
+-- a total order of all pairs: by number, and pairs of one number by denominator
+abbrev pub total_order : Fraction → Fraction → Ordering
+total_order a b = ordering_then (order (over_positive a) (over_positive b)) (nat_cmp a.denominator b.denominator)
 
 -- by rounding to the lower whole number
 abbrev pub divided_down : ℤ → ℕ → ℤ

@@ -3,3 +3,5 @@ pub mod Wide
 pub mod Frac
 pub mod Text
 pub mod Terms
+pub mod Integers
+pub mod Orders

@@ -1,8 +1,8 @@
 ghost use Rattle.std.specs.Prelude.{◌≡◌};
 ghost use Rattle.og_frac.specs.Fraction.{greatest_common_divisor};
 
-/// The greatest common divisor by Euclid's algorithm. The second number is more than halved in two
-/// steps, so there are at most about 185 of them.
+/// The greatest common divisor by Euclid's algorithm, one division a step. Two steps bring the second
+/// number below its half, so there are at most 256.
 #[tactic(auto, using(crate::proofs::Divisors::euclid))]
 pub fn greatest_common_divisor(first: u128, second: u128) -> u128
     ensures { result ≡ greatest_common_divisor first second }

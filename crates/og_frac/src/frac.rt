@@ -1,5 +1,9 @@
 ghost use Rattle.std.specs.Prelude.{◌≡◌, ◌<◌, ◌^◌, ◌↔◌, ◌≢◌, ◌+ℤ◌, ◌-ℤ◌, ◌*ℤ◌, pos, unsigned_abs, Ok, Err, Some};
-ghost use Rattle.og_frac.specs.Fraction.{Fraction, in_lowest_terms, IsFrac, sum, difference, product, quotient, sign, order, floor};
+ghost use Rattle.og_frac.specs.Fraction.{Fraction, in_lowest_terms, IsFrac, sum, difference, product, quotient, sign, order, total_order, floor};
+ghost use Rattle.std.specs.Ordering.{as_partial_cmp};
+ghost use Rattle.std.proofs.Common.{refl};
+ghost use Rattle.og_frac.specs.Orders.{total_order_total, total_order_equal};
+ghost use Rattle.std.specs.Cmp.{partial_order_from_agreeing_total};
 ghost use Rattle.og_frac.specs.Frac.{IsExact};
 ghost use Rattle.og_frac.specs.Text.{text};
 
@@ -11,6 +15,9 @@ use std::marker::Model;
 
 /// A rational number in lowest terms, with the sign in the numerator. Both parts are below 2^63 in
 /// size, so a product of two of them has 126 bits and a sum of two products 127.
+///
+/// Each operation takes a constant number of operations on words of at most 128 bits, and beside them
+/// at most one greatest common divisor, which it names.
 #[derive(Clone, Copy, Debug, PartialEq, Eq)]
 pub struct Frac {
     num: i64,
@@ -86,7 +93,8 @@ fn turned(number: i128, other: i64) -> i128
 }
 
 impl Frac {
-    /// The fraction n/d in lowest terms: one greatest common divisor.
+    /// The fraction n/d in lowest terms: one greatest common divisor, of n's size and d, and none where
+    /// d is 0.
     pub fn new(n: i64, d: u64) -> Result<Frac, FracFault>
         ensures zero { (result ≡ Err FracFault.Zero) ↔ (d ≡ 0) }
         ensures exact { 0 < d → IsExact result (in_lowest_terms (record { numerator = n; denominator = d })) }
@@ -97,7 +105,7 @@ impl Frac {
         fitted(i128::from(n), u128::from(d))
     }
 
-    /// The numerator, with the sign.
+    /// The numerator, with the sign: no greatest common divisor.
     pub fn num(&self) -> i64
         ensures value { result ≡ self.now.numerator }
         ensures fraction { IsFrac self.now }
@@ -105,7 +113,7 @@ impl Frac {
         self.num
     }
 
-    /// The denominator, above 0.
+    /// The denominator, above 0: no greatest common divisor.
     pub fn den(&self) -> u64
         ensures value { result ≡ self.now.denominator }
         ensures fraction { IsFrac self.now }
@@ -113,7 +121,8 @@ impl Frac {
         self.den
     }
 
-    /// The sum: one greatest common divisor.
+    /// The sum: one greatest common divisor, of its numerator's size over the product of the
+    /// denominators and that product.
     #[tactic(auto, unfolding(crate::specs::Fraction::sum))]
     pub fn add(self, by: Frac) -> Result<Frac, FracFault>
         ensures exact { IsExact result (sum self by) }
@@ -126,7 +135,8 @@ impl Frac {
         )
     }
 
-    /// The difference: one greatest common divisor.
+    /// The difference: one greatest common divisor, of its numerator's size over the product of the
+    /// denominators and that product.
     #[tactic(auto, unfolding(crate::specs::Fraction::difference))]
     pub fn sub(self, by: Frac) -> Result<Frac, FracFault>
         ensures exact { IsExact result (difference self by) }
@@ -139,7 +149,8 @@ impl Frac {
         )
     }
 
-    /// The product: one greatest common divisor.
+    /// The product: one greatest common divisor, of the sizes of the products of the numerators and of
+    /// the denominators.
     #[tactic(auto, unfolding(crate::specs::Fraction::product))]
     pub fn mul(self, by: Frac) -> Result<Frac, FracFault>
         ensures exact { IsExact result (product self by) }
@@ -148,7 +159,8 @@ impl Frac {
         fitted(num, u128::from(self.den) * u128::from(by.den))
     }
 
-    /// The quotient, or what is given for it where the divisor is 0: one greatest common divisor.
+    /// The quotient, or what is given for it where the divisor is 0: one greatest common divisor, of the
+    /// two products crosswise, and none where the divisor is 0.
     #[tactic(auto, unfolding(crate::specs::Fraction::quotient))]
     pub fn ratio(self, by: Frac, otherwise: Frac) -> Result<Frac, FracFault>
         ensures zero { by.numerator ≡ pos 0 → result ≡ Ok otherwise }
@@ -162,17 +174,8 @@ impl Frac {
         fitted(turned(num, by.num), u128::from(self.den) * size)
     }
 
-    /// The order of the two numbers: two products.
-    #[tactic(auto, unfolding(crate::specs::Fraction::order))]
-    pub fn cmp(&self, other: &Frac) -> Ordering
-        ensures { result ≡ order self.now other.now }
-    {
-        let first = multiplied(i128::from(self.num), i128::from(other.den));
-        let second = multiplied(i128::from(other.num), i128::from(self.den));
-        first.cmp(&second)
-    }
-
-    /// The greatest whole number that is not above the fraction: one division.
+    /// The greatest whole number that is not above the fraction: one division and no greatest common
+    /// divisor.
     #[tactic(auto, using(crate::proofs::LowestTerms::euclidean), unfolding(crate::specs::Fraction::floor))]
     pub fn floor(self) -> i64
         ensures { result ≡ floor self }
@@ -181,7 +184,41 @@ impl Frac {
     }
 }
 
-/// Prints `n` for a whole number, and `n/d` otherwise.
+/// By value: two products and no greatest common divisor.
+impl Ord for Frac {
+    ghost cmp = { total_order };
+
+    ghost total = { total_order_total };
+
+    ghost matches_partial_cmp = { λ a b. refl };
+
+    ghost matches_eq = { total_order_equal };
+
+    #[tactic(auto, unfolding(crate::specs::Fraction::order))]
+    fn cmp(&self, other: &Frac) -> Ordering
+        ensures value { result ≡ order self.now other.now }
+        ensures total { result ≡ total_order self.now other.now }
+    {
+        let first = multiplied(i128::from(self.num), i128::from(other.den));
+        let second = multiplied(i128::from(other.num), i128::from(self.den));
+        first.cmp(&second)
+    }
+}
+
+impl PartialOrd for Frac {
+    ghost partial_cmp = { as_partial_cmp total_order };
+
+    ghost laws = { partial_order_from_agreeing_total total_order total_order_total (λ a b. refl) total_order_equal };
+
+    fn partial_cmp(&self, other: &Frac) -> Option<Ordering>
+        ensures value { result ≡ Some (order self.now other.now) }
+        ensures total { result ≡ as_partial_cmp total_order self.now other.now }
+    {
+        Some(self.cmp(other))
+    }
+}
+
+/// Prints `n` for a whole number, and `n/d` otherwise: no greatest common divisor.
 impl fmt::Display for Frac {
     ghost output = { λ q. Some (text q) };
 

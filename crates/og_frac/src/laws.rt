@@ -6,7 +6,7 @@ ghost use Rattle.std.specs.Prelude.{◌≡◌, List, ◌∷◌, All, IsPermutati
 ghost use Rattle.std.specs.Ordering.{ordering_reverse};
 ghost use Rattle.std.specs.declared.cmp.Ordering.TheVariants.{Less, Equal};
 ghost use Rattle.og_frac.specs.declared.terms.Term.{Term};
-ghost use Rattle.og_frac.specs.Fraction.{Fraction, in_lowest_terms, IsInLowestTerms, SameNumber, sum, order, floor};
+ghost use Rattle.og_frac.specs.Fraction.{Fraction, in_lowest_terms, IsInLowestTerms, SameNumber, sum, order, total_order, floor};
 
 /// Lowest terms stand for the same number, and each number has one such form.
 pub fn lowest_terms()
@@ -22,12 +22,14 @@ pub fn sums()
     ensures associate { (a b c : Fraction) → 0 < a.denominator → 0 < b.denominator → 0 < c.denominator → sum (sum a b) c ≡ sum a (sum b c) }
 {}
 
-/// Any two fractions are in order.
+/// Any two fractions are in order, and for those of the program it is the order that `==` and `<`
+/// test.
 pub fn orders()
     ensures reversed { (a b : Fraction) → order a b ≡ ordering_reverse (order b a) }
     ensures equal { (a b : Fraction) → (order a b ≡ Equal) ↔ SameNumber a b }
     ensures less { (a b : Fraction) → (order a b ≡ Less) ↔ ((a.numerator *ℤ pos b.denominator) <ℤ (b.numerator *ℤ pos a.denominator)) }
     ensures transitive { (a b c : Fraction) → 0 < a.denominator → 0 < b.denominator → 0 < c.denominator → order a b ≡ Less → order b c ≡ Less → order a c ≡ Less }
+    ensures total { (a b : Fraction) → IsInLowestTerms a → IsInLowestTerms b → total_order a b ≡ order a b }
 {}
 
 /// The floor is the greatest whole number that is not above the fraction.

@@ -112,8 +112,9 @@ fn summed(terms: &[Term], common: u64, room: u128) -> Option<Sum>
 
 impl Sum {
     /// The sum of the terms over the least common multiple of their denominators, where that many
-    /// times the sum of sizes still has room in 126 bits: a greatest common divisor and a division
-    /// for each term.
+    /// times the sum of sizes still has room in 126 bits. For each term it takes at most one greatest
+    /// common divisor, of the term's denominator and the multiple so far, at most one division for the
+    /// multiple and one for the sum, and a constant number of operations on words beside them.
     pub fn of(terms: &[Term], times: u64) -> Result<Sum, SumFault>
         requires { 1 ≤ times }
         ensures { IsExactSum terms.now times result }
@@ -127,7 +128,8 @@ impl Sum {
         }
     }
 
-    /// The numerator of the terms' sum over a denominator that all of them share.
+    /// The numerator of the terms' sum over a denominator that all of them share: a division and a
+    /// constant number of operations on words for each term, and no greatest common divisor.
     pub fn part(terms: &[Term], common: u64) -> i128
         requires { absolute_over common terms.now < 2 ^ 126 }
         ensures { result ≡ value_over common terms.now }

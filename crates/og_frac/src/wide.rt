@@ -10,13 +10,16 @@ pub struct Wide {
     pub num: i128,
     /// The denominator, above 0.
     pub den: u128,
+    /// The denominator is above 0, and the two have no common divisor but 1.
+    pub ghost lowest: { IsInLowestTerms (record { numerator = num; denominator = den }) },
 }
 
 impl Wide {
     ghost use Rattle.og_frac.specs.Wide.{fraction_of};
 
+    /// The fraction in lowest terms: one greatest common divisor, of the numerator's size and the
+    /// denominator, two divisions and a constant number of other operations on words.
     #[tactic(auto, using(crate::proofs::Divisors::greatest_common_divisor_positive))]
-    /// The fraction in lowest terms: one greatest common divisor and two divisions.
     pub fn new(num: i128, den: u128) -> Wide
         requires positive { 0 < den }
         requires above_least { unsigned_abs num < 2 ^ 127 }

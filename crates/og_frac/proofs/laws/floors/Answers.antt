@@ -1,4 +1,4 @@
-use Rattle.og_frac.proofs.Orders.{floor_at_most, floor_greatest}
+use Rattle.og_frac.proofs.Floors.{floor_at_most, floor_greatest}
 use Rattle.og_frac.proofs.laws.floors.Goals as goal
 
 pub returns-clause-at_most : goal.returns-clause-at_most

@@ -1,8 +1,8 @@
--- Laws of integers times natural numbers.
+-- Laws of integers times natural numbers, by which the laws of the order are proved.
 use Rattle.std.proofs.Common.{◌≡◌, ℕ, zero, suc, ◌+◌, ◌*◌, ◌<◌, ℤ, pos, negsuc, arith, refl, sym, ap, ◌∙◌}
 use Rattle.std.specs.Prelude.{◌+ℤ◌, ◌*ℤ◌}
 use Rattle.std.proofs.Math.IntN.{neg_ℤ}
-use Rattle.std.proofs.Math.Nat.{zero-mul, mul_assoc, eq_of_mul-eq-mul_right}
+use Rattle.std.proofs.Math.Nat.{zero-mul, mul_assoc, mul_comm, eq_of_mul-eq-mul_right}
 use Rattle.std.proofs.lemmas.Int.{ints}
 use borrow.Author.Differences.{up, down, same_in, sum_is_lem}
 
@@ -25,3 +25,7 @@ times_cancel a b k some e =
 
 pub times_same : (a : ℤ) (j k : ℕ) → j ≡ k → a *ℤ pos j ≡ a *ℤ pos k
 times_same a j k e = ap (λ n. a *ℤ pos n) e
+
+-- factors in either order
+pub turned : (n : ℤ) (j k : ℕ) → n *ℤ pos j *ℤ pos k ≡ n *ℤ pos k *ℤ pos j
+turned n j k = times-times n j k ∙ times_same n (j * k) (k * j) (mul_comm j k) ∙ sym (times-times n k j)
