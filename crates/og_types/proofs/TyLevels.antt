@@ -1,8 +1,10 @@
 -- What definitions on types say at each form, and induction on types.
-use Rattle.std.proofs.Common.{◌≡◌, ℕ, ℤ, Bool, List, [], ◌∷◌, map, ap, sym, subst, ◌∙◌, refl}
-use Rattle.std.specs.Prelude.{Option}
+use Rattle.std.proofs.Common.{◌≡◌, ℕ, ℤ, pos, Bool, true, false, List, [], ◌∷◌, map, ap, sym, subst, ◌∙◌, refl}
+use Rattle.std.specs.Prelude.{Option, ◌+ℤ◌}
+use Rattle.og_frac.specs.Fraction.{whole}
 use Rattle.std.specs.Option.{option_map}
-use Rattle.std.specs.List.{AllByRecursion}
+use Rattle.std.specs.List.{AllByRecursion, list_all, range_with_len}
+use Rattle.std.proofs.lemmas.List.Folds.{list_all-map}
 use Rattle.std.specs.Cmp.Lexicographic.{pointwise}
 use Rattle.og_types.specs.declared.value.Value.{Value}
 use Rattle.og_types.specs.declared.value.Value.TheViews.{out-Value}
@@ -14,7 +16,7 @@ use Rattle.og_types.specs.declared.ty.Ty.TheViews.{out-Ty, roll-Ty}
 use Rattle.og_types.specs.declared.ty.Ty.TheFolds.{fold-Ty, fold-roll-Ty, map-Ty, ind-Ty}
 use Rattle.og_types.specs.declared.ty.Ty.TheVariants as ty
 use Rattle.og_types.specs.Ty.{same, same_step, fits, fits_step, holds, holds_step, is_finite, is_finite_step, bounds_fit, bounds_fit_step, join, join_step, joins}
-use Rattle.og_types.specs.Values.{values_of, values_step, joint_values_of}
+use Rattle.og_types.specs.Values.{values_of, values_step, joint_values_of, span}
 use Rattle.og_types.proofs.Lists.{pointwise-map}
 
 -- each of the parts beside its proof
@@ -33,7 +35,19 @@ type_induction P on_enum on_bool on_range on_tuple on_number = ind-Ty P (λ x y 
     step (one.Tuple es) = subst P (sym (ty.rolls-Tuple (map (λ e. e.0) es))) (on_tuple (map (λ e. e.0) es) (proofs_of P es))
     step one.Number = subst P (sym ty.rolls-Number) on_number
 
--- a definition at a tuple of types
+-- a definition at each form
+pub fold_enum : (A : Type 0) (step : Ty-F A → A) (family cases : ℕ) → fold-Ty A step (ty.Enum family cases) ≡ step (one.Enum family cases)
+fold_enum A step family cases = ap (fold-Ty A step) (sym (ty.rolls-Enum family cases)) ∙ fold-roll-Ty A step (one.Enum family cases)
+
+pub fold_bool : (A : Type 0) (step : Ty-F A → A) → fold-Ty A step ty.Bool ≡ step one.Bool
+fold_bool A step = ap (fold-Ty A step) (sym ty.rolls-Bool) ∙ fold-roll-Ty A step one.Bool
+
+pub fold_range : (A : Type 0) (step : Ty-F A → A) (low high : ℤ) → fold-Ty A step (ty.Range low high) ≡ step (one.Range low high)
+fold_range A step low high = ap (fold-Ty A step) (sym (ty.rolls-Range low high)) ∙ fold-roll-Ty A step (one.Range low high)
+
+pub fold_number : (A : Type 0) (step : Ty-F A → A) → fold-Ty A step ty.Number ≡ step one.Number
+fold_number A step = ap (fold-Ty A step) (sym ty.rolls-Number) ∙ fold-roll-Ty A step one.Number
+
 pub fold_tuple : (A : Type 0) (step : Ty-F A → A) (ts : List Ty) → fold-Ty A step (ty.Tuple ts) ≡ step (one.Tuple (map (fold-Ty A step) ts))
 fold_tuple A step ts = ap (fold-Ty A step) (sym (ty.rolls-Tuple ts)) ∙ fold-roll-Ty A step (one.Tuple ts)
 
@@ -54,3 +68,36 @@ holds_tuples ts vs =
 
 pub join_tuples : (ts us : List Ty) → join (ty.Tuple ts) (ty.Tuple us) ≡ option_map ty.Tuple (joins (map join ts) us)
 join_tuples ts us = fold_tuples (Option Ty) join_step ts us
+
+pub is_finite_tuple : (ts : List Ty) → is_finite (ty.Tuple ts) ≡ list_all is_finite ts
+is_finite_tuple ts = fold_tuple Bool is_finite_step ts ∙ list_all-map (λ part. part) is_finite ts
+
+pub bounds_fit_tuple : (ts : List Ty) → bounds_fit (ty.Tuple ts) ≡ list_all bounds_fit ts
+bounds_fit_tuple ts = fold_tuple Bool bounds_fit_step ts ∙ list_all-map (λ part. part) bounds_fit ts
+
+pub values_tuple : (ts : List Ty) → values_of (ty.Tuple ts) ≡ map value.Tuple (joint_values_of ts)
+values_tuple ts = fold_tuple (List Value) values_step ts
+
+pub values_enum : (family cases : ℕ) → values_of (ty.Enum family cases) ≡ map (λ index. value.Case family index) (range_with_len 0 cases)
+values_enum family cases = fold_enum (List Value) values_step family cases
+
+pub values_bool : values_of ty.Bool ≡ value.Flag false ∷ value.Flag true ∷ []
+values_bool = fold_bool (List Value) values_step
+
+pub values_range : (low high : ℤ) → values_of (ty.Range low high) ≡ map (λ k. value.Number (whole (low +ℤ pos k))) (range_with_len 0 (span low high))
+values_range low high = fold_range (List Value) values_step low high
+
+pub values_number : values_of ty.Number ≡ []
+values_number = fold_number (List Value) values_step
+
+pub is_finite_enum : (family cases : ℕ) → is_finite (ty.Enum family cases) ≡ true
+is_finite_enum family cases = fold_enum Bool is_finite_step family cases
+
+pub is_finite_bool : is_finite ty.Bool ≡ true
+is_finite_bool = fold_bool Bool is_finite_step
+
+pub is_finite_range : (low high : ℤ) → is_finite (ty.Range low high) ≡ true
+is_finite_range low high = fold_range Bool is_finite_step low high
+
+pub is_finite_number : is_finite ty.Number ≡ false
+is_finite_number = fold_number Bool is_finite_step

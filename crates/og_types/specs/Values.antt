@@ -1,7 +1,8 @@
 -- The values of a finite type, in order, and the tuples of several types.
 use Rattle.std.specs.Prelude.{◌≡◌, ℕ, ◌+◌, ◌≤◌, Bool, true, false, if◌then◌else◌, min, ℤ, pos, ◌+ℤ◌, int_le, List, [], ◌∷◌, map, length, slice_get, Option, Some, None, IsTrue}
 use Rattle.std.specs.Int.{int_gap}
-use Rattle.std.specs.List.{list_all, flat_map, range_with_len, position_from}
+use Rattle.std.specs.List.{list_all, flat_map, range_with_len}
+use Rattle.std.specs.Option.{option_map}
 use Rattle.std.specs.Cmp.Lexicographic.{pointwise}
 use Rattle.og_frac.specs.Fraction.{whole}
 use Rattle.og_types.specs.declared.value.Value.{Value}
@@ -52,9 +53,15 @@ pub record AreSmall (types : List Ty) : Type 0 where
   pub finite : list_all is_finite types ≡ true
   pub few : length (joint_values_of types) ≤ 4096
 
--- the position of a value among those of the type, from 0
-abbrev pub rank_of : Ty → Value → Option ℕ
-rank_of t v = position_from (same v) 0 (values_of t)
+-- the first place, from 0, at which the test passes
+abbrev pub place_of : {X : Type 0} → (X → Bool) → List X → Option ℕ
+place_of test [] = None
+place_of test (x ∷ xs) = if test x then Some 0 else option_map (λ k. k + 1) (place_of test xs)
 
+-- the place of a value among those of the type
+abbrev pub rank_of : Ty → Value → Option ℕ
+rank_of t v = place_of (same v) (values_of t)
+
+-- the place of a list of values among the tuples of the types
 abbrev pub joint_rank_of : List Ty → List Value → Option ℕ
-joint_rank_of types values = position_from (pointwise same values) 0 (joint_values_of types)
+joint_rank_of types values = place_of (pointwise same values) (joint_values_of types)

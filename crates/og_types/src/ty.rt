@@ -40,7 +40,7 @@ impl Ty {
     /// Whether the two types are equal.
     #[cycle(same_types)]
     #[tactic(auto, using(crate::proofs::TyLevels::same_tuples))]
-    pub fn is_same(&self, other: &Ty) -> bool
+    fn is_same(&self, other: &Ty) -> bool
         ensures { result ≡ same self.now other.now }
     {
         match self {
@@ -279,4 +279,32 @@ pub fn all_hold(types: &List<Ty>, values: &List<Value>) -> bool
         }
     }
     true
+}
+
+/// Types are equal where they are of one form and their parts are equal: `==` answers true exactly at
+/// equal types.
+impl PartialEq for Ty {
+    ghost use Rattle.og_types.specs.Ty.{same};
+    ghost use Rattle.og_types.specs.TyEquality.{same_decides};
+    ghost use Rattle.std.specs.Cmp.{decided, partial_equiv_from_equiv};
+
+    ghost eq = { same };
+
+    ghost laws = { partial_equiv_from_equiv (decided same same_decides) };
+
+    #[tactic(auto, using(crate::specs::TyEquality::same_decides))]
+    fn eq(&self, other: &Ty) -> bool
+        ensures same { result ≡ same self.now other.now }
+        ensures equal { IsTrue result ↔ (self.now ≡ other.now) }
+    {
+        self.is_same(other)
+    }
+}
+
+impl Eq for Ty {
+    ghost use Rattle.og_types.specs.Ty.{same};
+    ghost use Rattle.og_types.specs.TyEquality.{same_decides};
+    ghost use Rattle.std.specs.Cmp.{decided};
+
+    ghost laws = { decided same same_decides };
 }

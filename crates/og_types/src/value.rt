@@ -37,7 +37,7 @@ impl Value {
     /// Whether the two values are equal.
     #[cycle(same_values)]
     #[tactic(auto, using(crate::proofs::ValueLevels::same_tuples))]
-    pub fn is_same(&self, other: &Value) -> bool
+    fn is_same(&self, other: &Value) -> bool
         ensures { result ≡ same self.now other.now }
     {
         match self {
@@ -140,4 +140,32 @@ fn order_all(values: &List<Value>, others: &List<Value>) -> Ordering
         }
     }
     values.len().cmp(&others.len())
+}
+
+/// Values are equal where they are of one form and their parts are equal: `==` answers true exactly at
+/// equal values.
+impl PartialEq for Value {
+    ghost use Rattle.og_types.specs.Value.{same};
+    ghost use Rattle.og_types.specs.ValueEquality.{same_decides};
+    ghost use Rattle.std.specs.Cmp.{decided, partial_equiv_from_equiv};
+
+    ghost eq = { same };
+
+    ghost laws = { partial_equiv_from_equiv (decided same same_decides) };
+
+    #[tactic(auto, using(crate::specs::ValueEquality::same_decides))]
+    fn eq(&self, other: &Value) -> bool
+        ensures same { result ≡ same self.now other.now }
+        ensures equal { IsTrue result ↔ (self.now ≡ other.now) }
+    {
+        self.is_same(other)
+    }
+}
+
+impl Eq for Value {
+    ghost use Rattle.og_types.specs.Value.{same};
+    ghost use Rattle.og_types.specs.ValueEquality.{same_decides};
+    ghost use Rattle.std.specs.Cmp.{decided};
+
+    ghost laws = { decided same same_decides };
 }
