@@ -3,3 +3,6 @@ pub mod ValueLevels
 pub mod TyLevels
 pub mod Products
 pub mod Counts
+pub mod Gaps
+pub mod Ranks
+pub mod Joint

@@ -87,7 +87,7 @@ place-append test (x ∷ xs) ys = by (test x) (place_of test xs) (place_of test 
     by false None (Some j) all e = ap (option_map (λ k. k + 1)) e ∙ ap Some (omega arith)
     by false (Some j) after all e = ap (option_map (λ k. k + 1)) e
 
-place-map : {X Y : Type 0} (f : X → Y) (test : Y → Bool) (xs : List X) → place_of test (map f xs) ≡ place_of (λ x. test (f x)) xs
+pub place-map : {X Y : Type 0} (f : X → Y) (test : Y → Bool) (xs : List X) → place_of test (map f xs) ≡ place_of (λ x. test (f x)) xs
 place-map f test [] = refl
 place-map f test (x ∷ xs) = ap (λ found. if test (f x) then Some 0 else option_map (λ k. k + 1) found) (place-map f test xs)
 
@@ -121,3 +121,13 @@ place_product v vs (x ∷ xs) tails =
     by false None rest = refl
     by false (Some i) None = refl
     by false (Some i) (Some j) = ap Some (omega arith)
+
+-- no tuple is empty
+pub place_shorter : (firsts : List Value) (tails : List (List Value)) → place_of (pointwise same []) (product firsts tails) ≡ None
+place_shorter [] tails = refl
+place_shorter (x ∷ xs) tails =
+    place-append (pointwise same []) (map (λ others. x ∷ others) tails) (product xs tails)
+    ∙ (λ j. first_found (block j) (option_map (λ k. length (map (λ others. x ∷ others) tails) + k) (place_shorter xs tails j)))
+  where
+    block : place_of (pointwise same []) (map (λ others. x ∷ others) tails) ≡ None
+    block = place-map (λ others. x ∷ others) (pointwise same []) tails ∙ place_nowhere (λ others. false) tails (λ others. refl)

@@ -3,12 +3,14 @@
 
 mod count;
 mod enums;
+mod rank;
 mod shown;
 mod ty;
 mod value;
 
 pub use count::joint_count;
 pub use enums::{Enums, Family};
+pub use rank::joint_rank;
 pub use shown::show;
 pub use ty::{Ty, all_fit, all_hold, copy_types, join_all};
 pub use value::{Value, copy_values};

@@ -1,9 +1,10 @@
 ghost use Rattle.std.specs.Prelude.{◌≡◌, ◌↔◌, IfOk, IsTrue, map};
 ghost use Rattle.std.specs.Option.{option_map};
 ghost use Rattle.std.specs.Cmp.Lexicographic.{pointwise};
-ghost use Rattle.og_types.specs.Ty.{same, fits, join, joins, holds};
+ghost use Rattle.og_types.specs.Ty.{same, fits, join, joins, holds, is_between};
 
 use crate::value::Value;
+use og_frac::Frac;
 use og_list::List;
 use std::alloc::{AllocError, Global};
 
@@ -114,9 +115,7 @@ impl Ty {
                 _ => false,
             },
             Ty::Range(low, high) => match v {
-                Value::Number(number) => {
-                    number.den() == 1 && *low <= number.num() && number.num() <= *high
-                }
+                Value::Number(number) => is_between(*low, *high, number),
                 _ => false,
             },
             Ty::Tuple(parts) => match v {
@@ -169,6 +168,13 @@ impl Ty {
             },
         }
     }
+}
+
+/// Whether the number is a whole number from the first to the second.
+pub fn is_between(low: i64, high: i64, number: &Frac) -> bool
+    ensures { result ≡ is_between low high number.now }
+{
+    number.den() == 1 && low <= number.num() && number.num() <= high
 }
 
 /// The tuple of the types, where they are there.
