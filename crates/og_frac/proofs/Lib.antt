@@ -6,3 +6,4 @@ pub mod Rationals
 pub mod Floors
 pub mod TotalOrder
 pub mod TermSums
+pub mod Wholes

@@ -1,5 +1,5 @@
 ghost use Rattle.std.specs.Prelude.{◌≡◌, ◌<◌, ◌^◌, ◌↔◌, ◌≢◌, ◌+ℤ◌, ◌-ℤ◌, ◌*ℤ◌, pos, unsigned_abs, Ok, Err, Some};
-ghost use Rattle.og_frac.specs.Fraction.{Fraction, in_lowest_terms, IsFrac, sum, difference, product, quotient, sign, order, total_order, floor};
+ghost use Rattle.og_frac.specs.Fraction.{Fraction, in_lowest_terms, IsFrac, sum, difference, product, quotient, sign, order, total_order, floor, whole};
 ghost use Rattle.std.specs.Ordering.{as_partial_cmp};
 ghost use Rattle.std.proofs.Common.{refl};
 ghost use Rattle.og_frac.specs.Orders.{total_order_total, total_order_equal};
@@ -179,6 +179,15 @@ impl Frac {
         ensures { result ≡ floor self }
     {
         self.num.div_euclid(self.den as i64)
+    }
+
+    /// The whole number as a fraction: a constant number of operations on words.
+    #[tactic(auto, using(crate::proofs::Wholes::whole_is))]
+    pub fn whole(n: i64) -> Frac
+        requires { unsigned_abs n < 2 ^ 63 }
+        ensures { result ≡ whole n }
+    {
+        Frac { num: n, den: 1 }
     }
 }
 

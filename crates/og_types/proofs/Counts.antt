@@ -1,0 +1,65 @@
+-- How the values of types are counted.
+use Rattle.std.proofs.Common.{◌≡◌, ℕ, zero, suc, ℤ, pos, ◌+◌, ◌*◌, ◌<◌, ◌≤◌, min, Bool, true, false, ◌&&◌, List, [], ◌∷◌, length, get_or, drop, map, ap, sym, ◌∙◌, refl, inl, inr, arith}
+use Rattle.std.specs.Prelude.{Some, None, Option}
+use Rattle.std.specs.List.{list_all}
+use Rattle.std.specs.Prelude.{◌+ℤ◌}
+use Rattle.og_frac.specs.Fraction.{whole}
+use Rattle.std.proofs.Math.Nat.{mul-suc}
+use Rattle.std.proofs.lemmas.Bool.{cases_lt}
+use Rattle.std.proofs.lemmas.List.{length-map}
+use Rattle.std.proofs.lemmas.List.FromFn.{length-map-range_with_len}
+use Rattle.og_types.specs.declared.value.Value.{Value}
+use Rattle.og_types.specs.declared.ty.Ty.{Ty}
+use Rattle.og_types.specs.declared.ty.Ty.TheVariants as ty
+use Rattle.og_types.specs.Ty.{is_finite}
+use Rattle.og_types.specs.Values.{values_of, joint_values_of, counted, span}
+use Rattle.og_types.specs.declared.value.Value.TheVariants as value
+use Rattle.og_types.proofs.Lists.{drop_at}
+use Rattle.og_types.proofs.TyLevels.{is_finite_tuple, values_tuple, is_finite_enum, values_enum, is_finite_bool, values_bool, is_finite_range, values_range}
+use Rattle.og_types.proofs.Products.{length_product}
+
+pub counted_tuple : (ts : List Ty) → counted (is_finite (ty.Tuple ts)) (length (values_of (ty.Tuple ts))) ≡ counted (list_all is_finite ts) (length (joint_values_of ts))
+counted_tuple ts = λ j. counted (is_finite_tuple ts j) ((ap length (values_tuple ts) ∙ length-map (joint_values_of ts) value.Tuple) j)
+
+stopped : (p b : ℕ) → min (min p 4097 * b) 4097 ≡ min (p * b) 4097
+stopped p zero = omega arith
+stopped p (suc b) = elim (cases_lt p 4097) [
+  | inl low ↦ let e : min p 4097 ≡ p = omega arith in (λ j. min (e j * suc b) 4097)
+  | inr high ↦ let e : min p 4097 ≡ 4097 = omega arith in (λ j. min (e j * suc b) 4097) ∙ omega (arith, mul-suc p b)
+]
+
+-- a product may be stopped at each factor
+pub stopped_product : (many a b : ℕ) → min (min (many * min a 4097) 4097 * b) 4097 ≡ min (many * (a * b)) 4097
+stopped_product many a b =
+    stopped (many * min a 4097) b ∙ ap (λ n. min n 4097) (let turned : many * min a 4097 * b ≡ min a 4097 * (many * b) = omega arith in turned) ∙ stopped a (many * b) ∙ ap (λ n. min n 4097) (let turned : a * (many * b) ≡ many * (a * b) = omega arith in turned)
+
+pub counted_goes : (ts : List Ty) (i : ℕ) (t : Ty) (many c next : ℕ) → i < length ts → t ≡ get_or ts i t → counted (is_finite t) (length (values_of t)) ≡ Some c → next ≡ min (many * c) 4097 → counted (list_all is_finite (drop (i + 1) ts)) (next * length (joint_values_of (drop (i + 1) ts))) ≡ counted (list_all is_finite (drop i ts)) (many * length (joint_values_of (drop i ts)))
+counted_goes ts i t many c next h p e f =
+    ap (λ n. counted (list_all is_finite (drop (i + 1) ts)) (n * length rest)) f ∙ by (is_finite t) (list_all is_finite (drop (i + 1) ts)) e ∙ sym (λ j. counted (list_all is_finite (drop_at ts i t h p j)) (many * length (joint_values_of (drop_at ts i t h p j))))
+  where
+    rest : List (List Value)
+    rest = joint_values_of (drop (i + 1) ts)
+
+    by : (here after : Bool) → counted here (length (values_of t)) ≡ Some c → counted after (min (many * c) 4097 * length rest) ≡ counted (here && after) (many * length (joint_values_of (t ∷ drop (i + 1) ts)))
+    by false after f = absurd (cc)
+    by true false f = refl
+    by true true f = ap Some ((let stopped : c ≡ min (length (values_of t)) 4097 = cc in λ j. min (min (many * stopped j) 4097 * length rest) 4097) ∙ stopped_product many (length (values_of t)) (length rest) ∙ ap (λ n. min (many * n) 4097) (sym (length_product (values_of t) rest)))
+
+pub counted_stops : (ts : List Ty) (i : ℕ) (t : Ty) (many : ℕ) → i < length ts → t ≡ get_or ts i t → counted (is_finite t) (length (values_of t)) ≡ None → None ≡ counted (list_all is_finite (drop i ts)) (many * length (joint_values_of (drop i ts)))
+counted_stops ts i t many h p e =
+    by (is_finite t) e ∙ sym (λ j. counted (list_all is_finite (drop_at ts i t h p j)) (many * length (joint_values_of (drop_at ts i t h p j))))
+  where
+    by : (here : Bool) → counted here (length (values_of t)) ≡ None → None ≡ counted (here && list_all is_finite (drop (i + 1) ts)) (many * length (joint_values_of (t ∷ drop (i + 1) ts)))
+    by false f = refl
+    by true f = absurd (cc)
+
+pub counted_enum : (family n : ℕ) → Some (min n 4097) ≡ counted (is_finite (ty.Enum family n)) (length (values_of (ty.Enum family n)))
+counted_enum family n =
+    ap (λ k. Some (min k 4097)) (sym (length-map-range_with_len (λ index. value.Case family index) 0 n)) ∙ (λ j. counted (sym (is_finite_enum family n) j) (length (sym (values_enum family n) j)))
+
+pub counted_bool : Some 2 ≡ counted (is_finite ty.Bool) (length (values_of ty.Bool))
+counted_bool = (λ j. counted (sym is_finite_bool j) (length (sym values_bool j)))
+
+pub counted_range : (low high : ℤ) → Some (min (span low high) 4097) ≡ counted (is_finite (ty.Range low high)) (length (values_of (ty.Range low high)))
+counted_range low high =
+    ap (λ k. Some (min k 4097)) (sym (length-map-range_with_len (λ k. value.Number (whole (low +ℤ pos k))) 0 (span low high))) ∙ (λ j. counted (sym (is_finite_range low high) j) (length (sym (values_range low high) j)))

@@ -1,0 +1,5 @@
+pub mod Lists
+pub mod ValueLevels
+pub mod TyLevels
+pub mod Products
+pub mod Counts

@@ -1,0 +1,113 @@
+-- Laws of lists that are compared place by place.
+use Rattle.std.proofs.Common.{◌≡◌, ℕ, suc, zero, ◌+◌, ◌<◌, ◌≤◌, Bool, true, false, ◌&&◌, List, [], ◌∷◌, length, get_or, drop, map, append_assoc, ◌++◌, ◌≢◌, inl, inr, ap, sym, ◌∙◌, refl, arith, add-one}
+use Rattle.std.specs.Prelude.{slice_get, Some, None, Option, option_and_then}
+use Rattle.std.specs.Option.{option_map}
+use Rattle.std.specs.Cmp.{nat_cmp_is}
+use Rattle.og_types.specs.declared.ty.Ty.{Ty}
+use Rattle.og_types.specs.Ty.{join, joins}
+use Rattle.std.specs.Cmp.Lexicographic.{pointwise, slice_cmp}
+use Rattle.std.specs.declared.cmp.Ordering.{Ordering}
+use Rattle.std.specs.declared.cmp.Ordering.TheVariants.{Less, Equal, Greater}
+use Rattle.std.specs.Ordering.{ordering_then, is_ne, nat_cmp}
+use Rattle.std.proofs.Math.Seq.{drop-cons}
+use Rattle.std.proofs.lemmas.Option.{slice_get_within, get_or_from_slice_get, slice_get_past, slice_get_cases}
+
+-- a test that is the same as another at each part
+pub pointwise-map : {A B C : Type 0} (f : A → B) (E : B → C → Bool) → (xs : List A) (ys : List C) → pointwise E (map f xs) ys ≡ pointwise (λ x y. E (f x) y) xs ys
+pointwise-map f E [] [] = refl
+pointwise-map f E [] (y ∷ ys) = refl
+pointwise-map f E (x ∷ xs) [] = refl
+pointwise-map f E (x ∷ xs) (y ∷ ys) = ap (λ b. E (f x) y && b) (pointwise-map f E xs ys)
+
+pub drop_at : {A : Type 0} (xs : List A) (i : ℕ) (x : A) → i < length xs → x ≡ get_or xs i x → drop i xs ≡ x ∷ drop (i + 1) xs
+drop_at xs i x h e = rw (add-one, drop-cons xs i x h) (ap (λ y. y ∷ drop (suc i) xs) (sym e))
+
+pub drop_got : {A : Type 0} (xs : List A) (i : ℕ) (x : A) → slice_get xs i ≡ Some x → drop i xs ≡ x ∷ drop (i + 1) xs
+drop_got xs i x e = drop_at xs i x (slice_get_within xs i x e) (sym (get_or_from_slice_get xs i x x e))
+
+-- the test at a place, and after it
+pub pointwise_at : {A B : Type 0} (E : A → B → Bool) (xs : List A) (ys : List B) (i : ℕ) (x : A) (y : B) → i < length xs → x ≡ get_or xs i x → slice_get ys i ≡ Some y → pointwise E (drop i xs) (drop i ys) ≡ E x y && pointwise E (drop (i + 1) xs) (drop (i + 1) ys)
+pointwise_at E xs ys i x y h p q = λ j. pointwise E (drop_at xs i x h p j) (drop_got ys i y q j)
+
+-- a place where the test passes goes on, and one where it fails decides
+pub pointwise_goes : {A B : Type 0} (E : A → B → Bool) (xs : List A) (ys : List B) (i : ℕ) (x : A) (y : B) → i < length xs → x ≡ get_or xs i x → slice_get ys i ≡ Some y → E x y ≡ true → pointwise E (drop (i + 1) xs) (drop (i + 1) ys) ≡ pointwise E (drop i xs) (drop i ys)
+pointwise_goes E xs ys i x y h p q e = sym (pointwise_at E xs ys i x y h p q ∙ ap (λ b. b && pointwise E (drop (i + 1) xs) (drop (i + 1) ys)) e)
+
+pub pointwise_stops : {A B : Type 0} (E : A → B → Bool) (xs : List A) (ys : List B) (i : ℕ) (x : A) (y : B) → i < length xs → x ≡ get_or xs i x → slice_get ys i ≡ Some y → E x y ≡ false → false ≡ pointwise E (drop i xs) (drop i ys)
+pointwise_stops E xs ys i x y h p q e = sym (pointwise_at E xs ys i x y h p q ∙ ap (λ b. b && pointwise E (drop (i + 1) xs) (drop (i + 1) ys)) e)
+
+-- the same of the order of lists
+pub slice_cmp-map : {A B C : Type 0} (f : A → B) (R : B → C → Ordering) → (xs : List A) (ys : List C) → slice_cmp R (map f xs) ys ≡ slice_cmp (λ x y. R (f x) y) xs ys
+slice_cmp-map f R [] [] = refl
+slice_cmp-map f R [] (y ∷ ys) = refl
+slice_cmp-map f R (x ∷ xs) [] = refl
+slice_cmp-map f R (x ∷ xs) (y ∷ ys) = ap (ordering_then (R (f x) y)) (slice_cmp-map f R xs ys)
+
+slice_cmp_at : {A B : Type 0} (R : A → B → Ordering) (xs : List A) (ys : List B) (i : ℕ) (x : A) (y : B) → i < length xs → x ≡ get_or xs i x → slice_get ys i ≡ Some y → slice_cmp R (drop i xs) (drop i ys) ≡ ordering_then (R x y) (slice_cmp R (drop (i + 1) xs) (drop (i + 1) ys))
+slice_cmp_at R xs ys i x y h p q = λ j. slice_cmp R (drop_at xs i x h p j) (drop_got ys i y q j)
+
+then_equal : (r o : Ordering) → is_ne r ≡ false → ordering_then r o ≡ o
+then_equal Less o h = absurd (cc)
+then_equal Equal o h = refl
+then_equal Greater o h = absurd (cc)
+
+then_found : (r o : Ordering) → is_ne r ≡ true → r ≡ ordering_then r o
+then_found Less o h = refl
+then_found Equal o h = absurd (cc)
+then_found Greater o h = refl
+
+pub slice_cmp_goes : {A B : Type 0} (R : A → B → Ordering) (xs : List A) (ys : List B) (i : ℕ) (x : A) (y : B) → i < length xs → x ≡ get_or xs i x → slice_get ys i ≡ Some y → (r : Ordering) → r ≡ R x y → is_ne r ≡ false → slice_cmp R (drop (i + 1) xs) (drop (i + 1) ys) ≡ slice_cmp R (drop i xs) (drop i ys)
+slice_cmp_goes R xs ys i x y h p q r e f = sym (slice_cmp_at R xs ys i x y h p q ∙ then_equal (R x y) _ (ap is_ne (sym e) ∙ f))
+
+pub slice_cmp_stops : {A B : Type 0} (R : A → B → Ordering) (xs : List A) (ys : List B) (i : ℕ) (x : A) (y : B) → i < length xs → x ≡ get_or xs i x → slice_get ys i ≡ Some y → (r : Ordering) → r ≡ R x y → is_ne r ≡ true → r ≡ slice_cmp R (drop i xs) (drop i ys)
+slice_cmp_stops R xs ys i x y h p q r e f = e ∙ then_found (R x y) _ (ap is_ne (sym e) ∙ f) ∙ sym (slice_cmp_at R xs ys i x y h p q)
+
+drop_past : {A : Type 0} (xs : List A) (i : ℕ) → slice_get xs i ≡ None → drop i xs ≡ []
+drop_past [] zero h = refl
+drop_past [] (suc i) h = refl
+drop_past (x ∷ xs) zero h = absurd (cc)
+drop_past (x ∷ xs) (suc i) h = drop_past xs i h
+
+-- the second list ends first
+pub slice_cmp_longer : {A B : Type 0} (R : A → B → Ordering) (xs : List A) (ys : List B) (i : ℕ) (x : A) → i < length xs → x ≡ get_or xs i x → slice_get ys i ≡ None → Greater ≡ slice_cmp R (drop i xs) (drop i ys)
+slice_cmp_longer R xs ys i x h p q = λ j. sym (λ k. slice_cmp R (drop_at xs i x h p k) (drop_past ys i q k)) j
+
+drop_end : {A : Type 0} (xs : List A) (i : ℕ) → length xs ≤ i → drop i xs ≡ []
+drop_end xs i h = drop_past xs i (slice_get_past xs i h)
+
+-- the first list ends first, or both end
+pub slice_cmp_ended : {A B : Type 0} (R : A → B → Ordering) (xs : List A) (ys : List B) (i : ℕ) → length xs ≡ i → i ≤ length ys → nat_cmp (length xs) (length ys) ≡ slice_cmp R (drop i xs) (drop i ys)
+slice_cmp_ended {A} {B} R xs ys i h k =
+    let none : drop i xs ≡ [] = drop_end xs i (omega arith) in
+    elim (slice_get_cases ys i).1 [
+      | inl at ↦
+          let shorter : Less ≡ nat_cmp (length xs) (length ys) = nat_cmp_is (length xs) (length ys) Less (omega (arith, at.1)) in
+          sym shorter ∙ (λ j. slice_cmp R (sym none j) (sym (drop_got ys i at.0 at.2) j))
+      | inr past ↦
+          let as_long : Equal ≡ nat_cmp (length xs) (length ys) = nat_cmp_is (length xs) (length ys) Equal (omega (arith, past.0)) in
+          sym as_long ∙ (λ j. slice_cmp R (sym none j) (sym (drop_end ys i past.0) j))
+    ]
+
+-- how the joins go on, and where there is none
+pub joins_at : (ts us : List Ty) (i : ℕ) (t u : Ty) → i < length ts → t ≡ get_or ts i t → slice_get us i ≡ Some u → joins (map join (drop i ts)) (drop i us) ≡ option_and_then (λ w. option_map (λ ws. w ∷ ws) (joins (map join (drop (i + 1) ts)) (drop (i + 1) us))) (join t u)
+joins_at ts us i t u h p q = λ j. joins (map join (drop_at ts i t h p j)) (drop_got us i u q j)
+
+pub joins_goes : (ts us all next : List Ty) (i : ℕ) (t u w : Ty) → i < length ts → t ≡ get_or ts i t → slice_get us i ≡ Some u → join t u ≡ Some w → next ≡ all ++ w ∷ [] → option_map (λ ws. next ++ ws) (joins (map join (drop (i + 1) ts)) (drop (i + 1) us)) ≡ option_map (λ ws. all ++ ws) (joins (map join (drop i ts)) (drop i us))
+joins_goes ts us all next i t u w h p q e f = ap (λ before. option_map (λ ws. before ++ ws) (joins (map join (drop (i + 1) ts)) (drop (i + 1) us))) f ∙ sym (ap (option_map (λ ws. all ++ ws)) (joins_at ts us i t u h p q ∙ ap (option_and_then (λ w. option_map (λ ws. w ∷ ws) (joins (map join (drop (i + 1) ts)) (drop (i + 1) us)))) e) ∙ by (joins (map join (drop (i + 1) ts)) (drop (i + 1) us)))
+  where
+    by : (found : Option (List Ty)) → option_map (λ ws. all ++ ws) (option_map (λ ws. w ∷ ws) found) ≡ option_map (λ ws. (all ++ w ∷ []) ++ ws) found
+    by None = refl
+    by (Some ws) = ap Some (sym (append_assoc all (w ∷ []) ws))
+
+pub joins_stops : (ts us all : List Ty) (i : ℕ) (t u : Ty) → i < length ts → t ≡ get_or ts i t → slice_get us i ≡ Some u → join t u ≡ None → None ≡ option_map (λ ws. all ++ ws) (joins (map join (drop i ts)) (drop i us))
+joins_stops ts us all i t u h p q e = sym (ap (option_map (λ ws. all ++ ws)) (joins_at ts us i t u h p q ∙ ap (option_and_then (λ w. option_map (λ ws. w ∷ ws) (joins (map join (drop (i + 1) ts)) (drop (i + 1) us)))) e))
+
+pub joins_short : (js : List (Ty → Option Ty)) (us : List Ty) → length js ≢ length us → None ≡ joins js us
+joins_short [] [] h = absurd (h refl)
+joins_short [] (u ∷ us) h = refl
+joins_short (j ∷ js) [] h = refl
+joins_short (j ∷ js) (u ∷ us) h = by (j u) (joins js us) (joins_short js us (λ e. h (omega arith)))
+  where
+    by : (one : Option Ty) (more : Option (List Ty)) → None ≡ more → None ≡ option_and_then (λ t. option_map (λ ts. t ∷ ts) more) one
+    by None more e = refl
+    by (Some t) more e = ap (option_map (λ ts. t ∷ ts)) e

@@ -1,0 +1,6 @@
+pub mod Value
+pub mod ValueEquality
+pub mod Ty
+pub mod TyEquality
+pub mod Values
+pub mod Names

@@ -1,0 +1,32 @@
+-- The names of enums and cases, and how a value prints.
+use Rattle.std.specs.Prelude.{ℕ, Bool, if◌then◌else◌, List, [], ◌++◌, slice_get, Option, unwrap_or, option_and_then, codes}
+use Rattle.std.specs.Option.{option_map}
+use Rattle.std.specs.List.{join_by}
+use Rattle.og_frac.specs.Text.{text}
+use Rattle.og_types.specs.declared.enums.Enums.{Enums}
+use Rattle.og_types.specs.declared.value.Value.{Value}
+use Rattle.og_types.specs.declared.value.Value.TheOpen.{Value-F}
+use Rattle.og_types.specs.declared.value.Value.TheOpen as one
+use Rattle.og_types.specs.declared.value.Value.TheFolds.{fold-Value}
+
+-- the name of the enum with this number
+abbrev pub name_of : Enums → ℕ → Option (List ℕ)
+name_of enums family = option_map (λ f. f.name) (slice_get enums.families family)
+
+-- the name of the enum's case at this index
+abbrev pub case_of : Enums → ℕ → ℕ → Option (List ℕ)
+case_of enums family index = option_and_then (λ f. slice_get f.cases index) (slice_get enums.families family)
+
+-- the texts, with a comma and a space between each two
+abbrev pub joined : List (List ℕ) → List ℕ
+joined = join_by (λ part. part) (codes ", ")
+
+abbrev pub shown_step : Enums → Value-F (List ℕ) → List ℕ
+shown_step enums (one.Case family index) = unwrap_or (case_of enums family index) []
+shown_step enums (one.Flag flag) = if flag then codes "true" else codes "false"
+shown_step enums (one.Number number) = text number
+shown_step enums (one.Tuple parts) = codes "(" ++ joined parts ++ codes ")"
+
+-- a case by its name, true or false, a number, a tuple's values in parentheses
+abbrev pub shown : Enums → Value → List ℕ
+shown enums = fold-Value (List ℕ) (shown_step enums)

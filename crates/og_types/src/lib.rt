@@ -1,0 +1,14 @@
+//! What a wire can carry: types, their values in order, and the names of the cases.
+#![tactic(auto)]
+
+mod count;
+mod enums;
+mod shown;
+mod ty;
+mod value;
+
+pub use count::joint_count;
+pub use enums::{Enums, Family};
+pub use shown::show;
+pub use ty::{Ty, all_fit, all_hold, copy_types, join_all};
+pub use value::{Value, copy_values};

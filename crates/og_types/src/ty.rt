@@ -1,0 +1,310 @@
+ghost use Rattle.std.specs.Prelude.{◌≡◌, ◌↔◌, IfOk, IsTrue, map};
+ghost use Rattle.std.specs.Option.{option_map};
+ghost use Rattle.std.specs.Cmp.Lexicographic.{pointwise};
+ghost use Rattle.og_types.specs.Ty.{same, fits, join, joins, holds};
+
+use crate::value::Value;
+use og_list::List;
+use std::alloc::{AllocError, Global};
+
+/// What a wire can carry.
+#[derive(Debug, Drop)]
+pub enum Ty {
+    /// The cases of an enum: its number and its count of cases.
+    Enum(u32, u32),
+    /// True and false.
+    Bool,
+    /// The whole numbers from the first to the second, both included.
+    Range(i64, i64),
+    /// One value of each type.
+    Tuple(List<Ty>),
+    /// Any fraction.
+    Number,
+}
+
+impl Ty {
+    /// An equal type, in memory of its own.
+    #[cycle(type_copies)]
+    pub fn copy(&self, alloc: Global) -> Result<Ty, AllocError>
+        ensures { IfOk result (λ made. made ≡ self.now) }
+    {
+        match self {
+            Ty::Enum(family, cases) => Ok(Ty::Enum(*family, *cases)),
+            Ty::Bool => Ok(Ty::Bool),
+            Ty::Range(low, high) => Ok(Ty::Range(*low, *high)),
+            Ty::Tuple(parts) => Ok(Ty::Tuple(copy_types(alloc, parts)?)),
+            Ty::Number => Ok(Ty::Number),
+        }
+    }
+
+    /// Whether the two types are equal.
+    #[cycle(same_types)]
+    #[tactic(auto, using(crate::proofs::TyLevels::same_tuples))]
+    fn is_same(&self, other: &Ty) -> bool
+        ensures { result ≡ same self.now other.now }
+    {
+        match self {
+            Ty::Enum(family, cases) => match other {
+                Ty::Enum(other, count) => family == other && cases == count,
+                _ => false,
+            },
+            Ty::Bool => match other {
+                Ty::Bool => true,
+                _ => false,
+            },
+            Ty::Range(low, high) => match other {
+                Ty::Range(from, to) => low == from && high == to,
+                _ => false,
+            },
+            Ty::Tuple(parts) => match other {
+                Ty::Tuple(others) => are_same(parts, others),
+                _ => false,
+            },
+            Ty::Number => match other {
+                Ty::Number => true,
+                _ => false,
+            },
+        }
+    }
+
+    /// Whether a value of this type will do where one of the other is asked for.
+    #[cycle(fitting)]
+    #[tactic(auto, using(crate::proofs::TyLevels::fits_tuples))]
+    pub fn fits(&self, into: &Ty) -> bool
+        ensures { result ≡ fits self.now into.now }
+    {
+        match self {
+            Ty::Enum(family, cases) => match into {
+                Ty::Enum(other, count) => family == other && cases == count,
+                _ => false,
+            },
+            Ty::Bool => match into {
+                Ty::Bool => true,
+                _ => false,
+            },
+            Ty::Range(low, high) => match into {
+                Ty::Range(from, to) => from <= low && high <= to,
+                Ty::Number => true,
+                _ => false,
+            },
+            Ty::Tuple(parts) => match into {
+                Ty::Tuple(others) => all_fit(parts, others),
+                _ => false,
+            },
+            Ty::Number => match into {
+                Ty::Number => true,
+                _ => false,
+            },
+        }
+    }
+
+    /// Whether the value is of this type.
+    #[cycle(holding)]
+    #[tactic(auto, using(crate::proofs::TyLevels::holds_tuples))]
+    pub fn holds(&self, v: &Value) -> bool
+        ensures { result ≡ holds self.now v.now }
+    {
+        match self {
+            Ty::Enum(family, cases) => match v {
+                Value::Case(other, index) => family == other && index < cases,
+                _ => false,
+            },
+            Ty::Bool => match v {
+                Value::Flag(_) => true,
+                _ => false,
+            },
+            Ty::Range(low, high) => match v {
+                Value::Number(number) => {
+                    number.den() == 1 && *low <= number.num() && number.num() <= *high
+                }
+                _ => false,
+            },
+            Ty::Tuple(parts) => match v {
+                Value::Tuple(values) => all_hold(parts, values),
+                _ => false,
+            },
+            Ty::Number => match v {
+                Value::Number(_) => true,
+                _ => false,
+            },
+        }
+    }
+}
+
+impl Ty {
+    /// The type of what may be of either type, where there is one: the least type that both fit.
+    #[cycle(joining)]
+    #[tactic(auto, using(crate::proofs::TyLevels::join_tuples))]
+    pub fn join(&self, alloc: Global, with: &Ty) -> Result<Option<Ty>, AllocError>
+        ensures { IfOk result (λ found. found ≡ join self.now with.now) }
+    {
+        match self {
+            Ty::Enum(family, cases) => match with {
+                Ty::Enum(other, count) => {
+                    if family == other && cases == count {
+                        Ok(Some(Ty::Enum(*family, *cases)))
+                    } else {
+                        Ok(None)
+                    }
+                }
+                _ => Ok(None),
+            },
+            Ty::Bool => match with {
+                Ty::Bool => Ok(Some(Ty::Bool)),
+                _ => Ok(None),
+            },
+            Ty::Range(low, high) => match with {
+                Ty::Range(from, to) => Ok(Some(Ty::Range((*low).min(*from), (*high).max(*to)))),
+                Ty::Number => Ok(Some(Ty::Number)),
+                _ => Ok(None),
+            },
+            Ty::Tuple(parts) => match with {
+                Ty::Tuple(others) => Ok(tuple_of(join_all(alloc, parts, others)?)),
+                _ => Ok(None),
+            },
+            Ty::Number => match with {
+                Ty::Range(_, _) => Ok(Some(Ty::Number)),
+                Ty::Number => Ok(Some(Ty::Number)),
+                _ => Ok(None),
+            },
+        }
+    }
+}
+
+/// The tuple of the types, where they are there.
+fn tuple_of(parts: Option<List<Ty>>) -> Option<Ty>
+    ensures { result ≡ option_map Ty.Tuple parts }
+{
+    match parts {
+        Some(parts) => Some(Ty::Tuple(parts)),
+        None => None,
+    }
+}
+
+/// The joins place by place, where each is there and there are as many types.
+#[cycle(joining)]
+pub fn join_all(
+    alloc: Global,
+    types: &List<Ty>,
+    with: &List<Ty>,
+) -> Result<Option<List<Ty>>, AllocError>
+    ensures { IfOk result (λ found. found ≡ joins (map join types.now) with.now) }
+{
+    if types.len() != with.len() {
+        return Ok(None);
+    }
+    let mut all = List::new(alloc);
+    'types: for (at, ty) in types.as_slice().iter().enumerate() {
+        match with.get(at) {
+            Some(other) => match ty.join(alloc, other)? {
+                Some(joined) => all.add(joined)?,
+                None => return Ok(None),
+            },
+            None => return Ok(None),
+        }
+    }
+    Ok(Some(all))
+}
+
+/// Equal types, in the same order, in memory of their own.
+#[cycle(type_copies)]
+pub fn copy_types(alloc: Global, types: &List<Ty>) -> Result<List<Ty>, AllocError>
+    ensures { IfOk result (λ made. made ≡ types.now) }
+{
+    let mut all = List::new(alloc);
+    'types: for ty in types.as_slice() {
+        all.add(ty.copy(alloc)?)?;
+    }
+    Ok(all)
+}
+
+/// Whether the two lists have equal types at each place.
+#[cycle(same_types)]
+fn are_same(types: &List<Ty>, others: &List<Ty>) -> bool
+    ensures { result ≡ pointwise same types.now others.now }
+{
+    if types.len() != others.len() {
+        return false;
+    }
+    'types: for (at, ty) in types.as_slice().iter().enumerate() {
+        match others.get(at) {
+            Some(other) => {
+                if !ty.is_same(other) {
+                    return false;
+                }
+            }
+            None => return false,
+        }
+    }
+    true
+}
+
+/// Whether each type fits the one at its place, and there are as many.
+#[cycle(fitting)]
+pub fn all_fit(types: &List<Ty>, into: &List<Ty>) -> bool
+    ensures { result ≡ pointwise fits types.now into.now }
+{
+    if types.len() != into.len() {
+        return false;
+    }
+    'types: for (at, ty) in types.as_slice().iter().enumerate() {
+        match into.get(at) {
+            Some(other) => {
+                if !ty.fits(other) {
+                    return false;
+                }
+            }
+            None => return false,
+        }
+    }
+    true
+}
+
+/// Whether each value is of the type at its place, and there are as many.
+#[cycle(holding)]
+pub fn all_hold(types: &List<Ty>, values: &List<Value>) -> bool
+    ensures { result ≡ pointwise holds types.now values.now }
+{
+    if types.len() != values.len() {
+        return false;
+    }
+    'types: for (at, ty) in types.as_slice().iter().enumerate() {
+        match values.get(at) {
+            Some(value) => {
+                if !ty.holds(value) {
+                    return false;
+                }
+            }
+            None => return false,
+        }
+    }
+    true
+}
+
+/// Types are equal where they are of one form and their parts are equal: `==` answers true exactly at
+/// equal types.
+impl PartialEq for Ty {
+    ghost use Rattle.og_types.specs.Ty.{same};
+    ghost use Rattle.og_types.specs.TyEquality.{same_decides};
+    ghost use Rattle.std.specs.Cmp.{decided, partial_equiv_from_equiv};
+
+    ghost eq = { same };
+
+    ghost laws = { partial_equiv_from_equiv (decided same same_decides) };
+
+    #[tactic(auto, using(crate::specs::TyEquality::same_decides))]
+    fn eq(&self, other: &Ty) -> bool
+        ensures same { result ≡ same self.now other.now }
+        ensures equal { IsTrue result ↔ (self.now ≡ other.now) }
+    {
+        self.is_same(other)
+    }
+}
+
+impl Eq for Ty {
+    ghost use Rattle.og_types.specs.Ty.{same};
+    ghost use Rattle.og_types.specs.TyEquality.{same_decides};
+    ghost use Rattle.std.specs.Cmp.{decided};
+
+    ghost laws = { decided same same_decides };
+}

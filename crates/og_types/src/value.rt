@@ -1,0 +1,171 @@
+ghost use Rattle.std.specs.Prelude.{◌≡◌, ◌↔◌, IfOk, IsTrue};
+ghost use Rattle.std.specs.Cmp.Lexicographic.{pointwise, slice_cmp};
+ghost use Rattle.og_types.specs.Value.{same, order};
+
+use og_frac::Frac;
+use og_list::List;
+use std::alloc::{AllocError, Global};
+use std::cmp::Ordering;
+
+/// What a wire carries.
+#[derive(Debug, Drop)]
+pub enum Value {
+    /// A case: its enum's number and its index there.
+    Case(u32, u32),
+    /// A truth.
+    Flag(bool),
+    /// A number. One of a range has the denominator 1.
+    Number(Frac),
+    /// One value for each component of a tuple.
+    Tuple(List<Value>),
+}
+
+impl Value {
+    /// An equal value, in memory of its own.
+    #[cycle(value_copies)]
+    pub fn copy(&self, alloc: Global) -> Result<Value, AllocError>
+        ensures { IfOk result (λ made. made ≡ self.now) }
+    {
+        match self {
+            Value::Case(family, index) => Ok(Value::Case(*family, *index)),
+            Value::Flag(flag) => Ok(Value::Flag(*flag)),
+            Value::Number(number) => Ok(Value::Number(*number)),
+            Value::Tuple(parts) => Ok(Value::Tuple(copy_values(alloc, parts)?)),
+        }
+    }
+
+    /// Whether the two values are equal.
+    #[cycle(same_values)]
+    #[tactic(auto, using(crate::proofs::ValueLevels::same_tuples))]
+    fn is_same(&self, other: &Value) -> bool
+        ensures { result ≡ same self.now other.now }
+    {
+        match self {
+            Value::Case(family, index) => match other {
+                Value::Case(other, at) => family == other && index == at,
+                _ => false,
+            },
+            Value::Flag(first) => match other {
+                Value::Flag(second) => first == second,
+                _ => false,
+            },
+            Value::Number(first) => match other {
+                Value::Number(second) => first == second,
+                _ => false,
+            },
+            Value::Tuple(parts) => match other {
+                Value::Tuple(others) => are_same(parts, others),
+                _ => false,
+            },
+        }
+    }
+
+    /// The order of the two values. Of one type, they stand as in the list of its values, and numbers
+    /// by their order as fractions.
+    #[cycle(value_orders)]
+    #[tactic(auto, using(crate::proofs::ValueLevels::order_tuples))]
+    pub fn order(&self, other: &Value) -> Ordering
+        ensures { result ≡ order self.now other.now }
+    {
+        match self {
+            Value::Case(family, index) => match other {
+                Value::Case(other, at) => family.cmp(other).then(index.cmp(at)),
+                _ => Ordering::Less,
+            },
+            Value::Flag(first) => match other {
+                Value::Case(_, _) => Ordering::Greater,
+                Value::Flag(second) => first.cmp(second),
+                _ => Ordering::Less,
+            },
+            Value::Number(first) => match other {
+                Value::Number(second) => first.cmp(second),
+                Value::Tuple(_) => Ordering::Less,
+                _ => Ordering::Greater,
+            },
+            Value::Tuple(parts) => match other {
+                Value::Tuple(others) => order_all(parts, others),
+                _ => Ordering::Greater,
+            },
+        }
+    }
+}
+
+/// Equal values, in the same order, in memory of their own.
+#[cycle(value_copies)]
+pub fn copy_values(alloc: Global, values: &List<Value>) -> Result<List<Value>, AllocError>
+    ensures { IfOk result (λ made. made ≡ values.now) }
+{
+    let mut all = List::new(alloc);
+    'values: for value in values.as_slice() {
+        all.add(value.copy(alloc)?)?;
+    }
+    Ok(all)
+}
+
+/// Whether the two lists have equal values at each place.
+#[cycle(same_values)]
+fn are_same(values: &List<Value>, others: &List<Value>) -> bool
+    ensures { result ≡ pointwise same values.now others.now }
+{
+    if values.len() != others.len() {
+        return false;
+    }
+    'values: for (at, value) in values.as_slice().iter().enumerate() {
+        match others.get(at) {
+            Some(other) => {
+                if !value.is_same(other) {
+                    return false;
+                }
+            }
+            None => return false,
+        }
+    }
+    true
+}
+
+/// The order of the two lists: by the first values, then the second, and so on.
+#[cycle(value_orders)]
+fn order_all(values: &List<Value>, others: &List<Value>) -> Ordering
+    ensures { result ≡ slice_cmp order values.now others.now }
+{
+    'values: for (at, value) in values.as_slice().iter().enumerate() {
+        match others.get(at) {
+            Some(other) => {
+                let found = value.order(other);
+                if found.is_ne() {
+                    return found;
+                }
+            }
+            None => return Ordering::Greater,
+        }
+    }
+    values.len().cmp(&others.len())
+}
+
+/// Values are equal where they are of one form and their parts are equal: `==` answers true exactly at
+/// equal values.
+impl PartialEq for Value {
+    ghost use Rattle.og_types.specs.Value.{same};
+    ghost use Rattle.og_types.specs.ValueEquality.{same_decides};
+    ghost use Rattle.std.specs.Cmp.{decided, partial_equiv_from_equiv};
+
+    ghost eq = { same };
+
+    ghost laws = { partial_equiv_from_equiv (decided same same_decides) };
+
+    #[tactic(auto, using(crate::specs::ValueEquality::same_decides))]
+    fn eq(&self, other: &Value) -> bool
+        ensures same { result ≡ same self.now other.now }
+        ensures equal { IsTrue result ↔ (self.now ≡ other.now) }
+    {
+        self.is_same(other)
+    }
+}
+
+impl Eq for Value {
+    ghost use Rattle.og_types.specs.Value.{same};
+    ghost use Rattle.og_types.specs.ValueEquality.{same_decides};
+    ghost use Rattle.std.specs.Cmp.{decided};
+
+    ghost laws = { decided same same_decides };
+}
