@@ -3,11 +3,12 @@ use Rattle.std.proofs.Common.{◌≡◌, ℕ, suc, ◌*◌, ◌/◌, ◌<◌, �
 use Rattle.std.specs.Prelude.{◌+ℤ◌, ◌*ℤ◌, unsigned_abs, int_div}
 use Rattle.std.specs.Int.{◌∣◌}
 use Rattle.std.proofs.Math.IntN.{neg_ℤ, +ℤ_comm, +ℤ_assoc}
-use Rattle.std.proofs.Math.Nat.{one-dvd, zero-mul, mul_assoc, mul_comm, mul-pos, mul-div_cancel', dvd_antisymm, dvd-mul_left}
+use Rattle.std.proofs.Math.Nat.{zero-mul, mul_assoc, mul_comm, mul-pos, mul-div_cancel', dvd_antisymm, dvd-mul_left}
 use Rattle.std.proofs.lemmas.Int.{unsigned_abs-mul}
 use Rattle.og_frac.specs.Fraction.{Fraction, in_lowest_terms, IsInLowestTerms, SameNumber, sum, whole}
-use Rattle.og_frac.proofs.Divisors.{greatest_common_divisor_is, greatest_common_divisor_from, divides_other}
+use Rattle.og_frac.proofs.Divisors.{greatest_common_divisor_is, divides_other}
 use Rattle.og_frac.proofs.LowestTerms.{in_lowest_terms_is}
+use Rattle.og_frac.proofs.Wholes.{whole_is}
 use Rattle.og_frac.specs.Integers.{neg-times, times-times, times-add, times_cancel, times_same, turned}
 
 SameNumber_trans : (a b c : Fraction) → 0 < b.denominator → SameNumber a b → SameNumber b c → SameNumber a c
@@ -131,9 +132,6 @@ sum_of_lowest a b p q =
 -- 0 over any denominator
 pub in_lowest_terms-zero : (d : ℕ) → 0 < d → in_lowest_terms (record { numerator = pos 0; denominator = d }) ≡ whole (pos 0)
 in_lowest_terms-zero d h =
-    let lowest : IsInLowestTerms (whole (pos 0)) = record {
-      positive = omega arith;
-      reduced = greatest_common_divisor_from 0 1 1 (one-dvd 0, one-dvd 1, λ d p q. q);
-    } in
+    let lowest = (whole_is (pos 0) (omega arith)).lowest in
     in_lowest_terms_same (record { numerator = pos 0; denominator = d }) (whole (pos 0)) h (omega arith) (ap pos (zero-mul 1 ∙ sym (zero-mul d)))
     ∙ in_lowest_terms_lowest (whole (pos 0)) lowest
