@@ -117,6 +117,14 @@ common a b (inr some) =
     let same : g ≡ chosen = omega arith in
     subst (λ n. IsGcd a b n) same f.is
 
+-- what is left of a number without a divisor
+pub quotient_positive : (n g : ℕ) → 0 < n → g ∣ n → 0 < n / g
+quotient_positive n g some h = by (n / g) (mul-div_cancel' g h)
+  where
+    by : (k : ℕ) → g * k ≡ n → 0 < k
+    by zero e = absurd (omega (arith, mul-zero g))
+    by (suc k) e = omega arith
+
 pub greatest_common_divisor_is : (a b : ℕ) → IsGcd a b (greatest_common_divisor a b)
 unfolding greatest_common_divisor
 greatest_common_divisor_is a b = common a b (zero_or (a + b))
@@ -132,7 +140,7 @@ greatest_common_divisor-zero a = greatest_common_divisor_from a 0 a (IsGcd-from_
 pub greatest_common_divisor-step : (a b : ℕ) → greatest_common_divisor b (a % b) ≡ greatest_common_divisor a b
 greatest_common_divisor-step a b = sym (greatest_common_divisor_from a b _ (IsGcd-from_mod a b _ (greatest_common_divisor_is b (a % b))))
 
-pub greatest_common_divisor-multiples : (k a b : ℕ) → greatest_common_divisor (k * a) (k * b) ≡ k * greatest_common_divisor a b
+greatest_common_divisor-multiples : (k a b : ℕ) → greatest_common_divisor (k * a) (k * b) ≡ k * greatest_common_divisor a b
 greatest_common_divisor-multiples k a b =
     let f = found a b in
     greatest_common_divisor_from (k * a) (k * b) (k * f.number) (f.times k)

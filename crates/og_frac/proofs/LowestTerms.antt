@@ -1,27 +1,20 @@
 -- Laws of lowest terms.
-use Rattle.std.proofs.Common.{◌≡◌, ℕ, zero, suc, ◌*◌, ◌/◌, ◌<◌, ◌^◌, ℤ, pos, negsuc, arith, refl, sym, ap, subst, ◌∙◌}
+use Rattle.std.proofs.Common.{◌≡◌, ℕ, ◌/◌, ◌<◌, ◌^◌, ℤ, pos, negsuc, arith, refl, sym, ap, subst, ◌∙◌}
 use Rattle.std.specs.Prelude.{◌*ℤ◌, unsigned_abs, int_div}
 use Rattle.std.specs.Int.{int_div_euclid}
 use Rattle.std.proofs.lemmas.Int.{ints, unsigned_abs-mul}
 use Rattle.std.proofs.lemmas.Nat.{mul-lt}
-use Rattle.std.proofs.Math.Nat.{div-mul_cancel, zero-mul, one-mul}
+use Rattle.std.proofs.Math.Nat.{one-mul}
 use Rattle.og_frac.specs.Fraction.{Fraction, greatest_common_divisor, in_lowest_terms, IsInLowestTerms, sign, divided_down}
-use Rattle.og_frac.proofs.Divisors.{greatest_common_divisor_is, greatest_common_divisor-left}
+use Rattle.og_frac.proofs.Divisors.{quotient_positive, greatest_common_divisor_is, greatest_common_divisor-left}
 
-pub sign-div : (n : ℤ) (g : ℕ) → sign n *ℤ pos (unsigned_abs n / g) ≡ int_div n (pos g)
+sign-div : (n : ℤ) (g : ℕ) → sign n *ℤ pos (unsigned_abs n / g) ≡ int_div n (pos g)
 sign-div (pos n) g = ap pos (one-mul (n / g))
 sign-div (negsuc n) g = omega (arith, ints)
 
-pub unsigned_abs-div : (n : ℤ) (g : ℕ) → unsigned_abs (int_div n (pos g)) ≡ unsigned_abs n / g
+unsigned_abs-div : (n : ℤ) (g : ℕ) → unsigned_abs (int_div n (pos g)) ≡ unsigned_abs n / g
 unsigned_abs-div (pos n) g = refl
 unsigned_abs-div (negsuc n) g = omega (arith, ints)
-
-quotient_positive : (d g : ℕ) → 0 < d → d / g * g ≡ d → 0 < d / g
-quotient_positive d g h e = by (d / g) e
-  where
-    by : (n : ℕ) → n * g ≡ d → 0 < n
-    by zero e = absurd (omega (arith, zero-mul g))
-    by (suc n) e = omega arith
 
 pub in_lowest_terms_is : (q : Fraction) → 0 < q.denominator → IsInLowestTerms (in_lowest_terms q)
 unfolding in_lowest_terms
@@ -30,7 +23,7 @@ in_lowest_terms_is q h =
     let g = greatest_common_divisor a q.denominator in
     let is = greatest_common_divisor_is a q.denominator in
     record {
-      positive = quotient_positive q.denominator g h (div-mul_cancel g is.1);
+      positive = quotient_positive q.denominator g h is.1;
       reduced = ap (λ n. greatest_common_divisor n (q.denominator / g)) (unsigned_abs-div q.numerator g) ∙ greatest_common_divisor-left a q.denominator h;
     }
 

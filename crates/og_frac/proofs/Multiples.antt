@@ -1,9 +1,9 @@
 -- Laws of the least common multiple.
-use Rattle.std.proofs.Common.{◌≡◌, ℕ, zero, suc, ◌*◌, ◌/◌, ◌<◌, ◌≤◌, arith, sym, ap, subst, ◌∙◌}
+use Rattle.std.proofs.Common.{◌≡◌, ℕ, ◌*◌, ◌/◌, ◌<◌, ◌≤◌, sym, ap, subst, ◌∙◌}
 use Rattle.std.specs.Int.{◌∣◌}
-use Rattle.std.proofs.Math.Nat.{dvd_refl, dvd_trans, dvd_antisymm, dvd-mul_right, one-dvd, mul_comm, mul_assoc, mul-zero, mul-pos, mul-div_cancel', dvd_of_mul-dvd-mul_left, mul-dvd-mul_left, le_of_dvd}
+use Rattle.std.proofs.Math.Nat.{dvd_refl, dvd_trans, dvd_antisymm, dvd-mul_right, mul_comm, mul_assoc, mul-pos, mul-div_cancel', dvd_of_mul-dvd-mul_left, mul-dvd-mul_left, le_of_dvd}
 use Rattle.og_frac.specs.Fraction.{greatest_common_divisor, least_common_multiple}
-use Rattle.og_frac.proofs.Divisors.{greatest_common_divisor_is, greatest_common_divisor_positive, greatest_common_divisor-left, divides_other}
+use Rattle.og_frac.proofs.Divisors.{quotient_positive, greatest_common_divisor_is, greatest_common_divisor_positive, greatest_common_divisor-left, divides_other}
 
 pub first_divides : (a b : ℕ) → a ∣ least_common_multiple a b
 unfolding least_common_multiple
@@ -36,19 +36,12 @@ divides_common a b m some p q =
     let left : b / g ∣ m / a = divides_other (a / g) (b / g) (m / a) (greatest_common_divisor-left a b some) (dvd_of_mul-dvd-mul_left (b / g) positive whole) in
     subst (λ n. a * (b / g) ∣ n) times (mul-dvd-mul_left (b / g) a left)
 
-quotient_positive : (a b g : ℕ) → 0 < b → g * (b / g) ≡ b → 0 < b / g
-quotient_positive a b g some e = by (b / g) e
-  where
-    by : (n : ℕ) → g * n ≡ b → 0 < n
-    by zero e = absurd (omega (arith, mul-zero g))
-    by (suc n) e = omega arith
-
 pub least_common_multiple_positive : (a b : ℕ) → 0 < a → 0 < b → 0 < least_common_multiple a b
 unfolding least_common_multiple
 least_common_multiple_positive a b h k =
     let g = greatest_common_divisor a b in
     let is = greatest_common_divisor_is a b in
-    mul-pos h (quotient_positive a b g k (mul-div_cancel' g is.1))
+    mul-pos h (quotient_positive b g k is.1)
 
 pub least_common_multiple_comm : (a b : ℕ) → 0 < a → 0 < b → least_common_multiple a b ≡ least_common_multiple b a
 least_common_multiple_comm a b h k =
@@ -69,10 +62,6 @@ least_common_multiple_assoc a b c h k l =
     (divides_common a bc left (least_common_multiple_positive b c k l)
     (dvd_trans a (first_divides a b) (first_divides ab c))
     (divides_common b c left l (dvd_trans b (second_divides a b) (first_divides ab c)) (second_divides ab c)))
-
-pub least_common_multiple-one : (a : ℕ) → least_common_multiple a 1 ≡ a
-least_common_multiple-one a =
-    dvd_antisymm (divides_common a 1 a (omega arith) (dvd_refl a) (one-dvd a)) (first_divides a 1)
 
 -- what is a multiple already stays
 pub least_common_multiple_of_multiple : (a b : ℕ) → 0 < b → a ∣ b → least_common_multiple a b ≡ b

@@ -3,14 +3,15 @@ use Rattle.std.proofs.Common.{◌≡◌, ℕ, suc, ◌*◌, ◌/◌, ◌<◌, �
 use Rattle.std.specs.Prelude.{◌+ℤ◌, ◌*ℤ◌, unsigned_abs, int_div}
 use Rattle.std.specs.Int.{◌∣◌}
 use Rattle.std.proofs.Math.IntN.{neg_ℤ, +ℤ_comm, +ℤ_assoc}
-use Rattle.std.proofs.Math.Nat.{one-dvd, zero-mul, mul_assoc, mul_comm, mul-pos, mul-div_cancel', dvd_antisymm, dvd-mul_left}
+use Rattle.std.proofs.Math.Nat.{zero-mul, mul_assoc, mul_comm, mul-pos, mul-div_cancel', dvd_antisymm, dvd-mul_left}
 use Rattle.std.proofs.lemmas.Int.{unsigned_abs-mul}
 use Rattle.og_frac.specs.Fraction.{Fraction, in_lowest_terms, IsInLowestTerms, SameNumber, sum, whole}
-use Rattle.og_frac.proofs.Divisors.{greatest_common_divisor_is, greatest_common_divisor_from, divides_other}
+use Rattle.og_frac.proofs.Divisors.{greatest_common_divisor_is, divides_other}
 use Rattle.og_frac.proofs.LowestTerms.{in_lowest_terms_is}
+use Rattle.og_frac.proofs.Wholes.{whole_is}
 use Rattle.og_frac.specs.Integers.{neg-times, times-times, times-add, times_cancel, times_same, turned}
 
-pub SameNumber_trans : (a b c : Fraction) → 0 < b.denominator → SameNumber a b → SameNumber b c → SameNumber a c
+SameNumber_trans : (a b c : Fraction) → 0 < b.denominator → SameNumber a b → SameNumber b c → SameNumber a c
 SameNumber_trans a b c some p q =
     let x = a.denominator in
     let y = b.denominator in
@@ -57,7 +58,7 @@ in_lowest_terms_same a b p q e =
     (SameNumber_trans (in_lowest_terms a) a (in_lowest_terms b) p (SameNumber-in_lowest_terms a)
     (SameNumber_trans a b (in_lowest_terms b) q e (sym (SameNumber-in_lowest_terms b))))
 
-pub in_lowest_terms_lowest : (a : Fraction) → IsInLowestTerms a → in_lowest_terms a ≡ a
+in_lowest_terms_lowest : (a : Fraction) → IsInLowestTerms a → in_lowest_terms a ≡ a
 in_lowest_terms_lowest a p =
     same_from_SameNumber _ a (in_lowest_terms_is a p.positive) p (SameNumber-in_lowest_terms a)
 
@@ -68,11 +69,11 @@ plain_sum a b = record {
   denominator = a.denominator * b.denominator;
 }
 
-pub plain_sum_comm : (a b : Fraction) → plain_sum a b ≡ plain_sum b a
+plain_sum_comm : (a b : Fraction) → plain_sum a b ≡ plain_sum b a
 plain_sum_comm a b =
     (λ i. record { numerator = +ℤ_comm (a.numerator *ℤ pos b.denominator) (b.numerator *ℤ pos a.denominator) i; denominator = mul_comm a.denominator b.denominator i })
 
-pub plain_sum_assoc : (a b c : Fraction) → plain_sum (plain_sum a b) c ≡ plain_sum a (plain_sum b c)
+plain_sum_assoc : (a b c : Fraction) → plain_sum (plain_sum a b) c ≡ plain_sum a (plain_sum b c)
 plain_sum_assoc a b c =
     let x = a.denominator in
     let y = b.denominator in
@@ -90,7 +91,7 @@ plain_sum_assoc a b c =
     (λ i. record { numerator = numerators i; denominator = mul_assoc x y z i })
 
 -- a sum depends only on the numbers
-pub plain_sum_same : (a b c : Fraction) → SameNumber a b → SameNumber (plain_sum a c) (plain_sum b c)
+plain_sum_same : (a b c : Fraction) → SameNumber a b → SameNumber (plain_sum a c) (plain_sum b c)
 plain_sum_same a b c e =
     let x = a.denominator in
     let y = b.denominator in
@@ -110,7 +111,7 @@ unfolding sum
 sum_comm a b = ap in_lowest_terms (plain_sum_comm a b)
 
 -- a part may be put in lowest terms first
-pub sum-in_lowest_terms : (a c : Fraction) → 0 < a.denominator → 0 < c.denominator → sum (in_lowest_terms a) c ≡ in_lowest_terms (plain_sum a c)
+sum-in_lowest_terms : (a c : Fraction) → 0 < a.denominator → 0 < c.denominator → sum (in_lowest_terms a) c ≡ in_lowest_terms (plain_sum a c)
 unfolding sum
 sum-in_lowest_terms a c p q =
     in_lowest_terms_same (plain_sum (in_lowest_terms a) c) (plain_sum a c) (mul-pos (in_lowest_terms_is a p).positive q) (mul-pos p q) (plain_sum_same (in_lowest_terms a) a c (SameNumber-in_lowest_terms a))
@@ -131,9 +132,6 @@ sum_of_lowest a b p q =
 -- 0 over any denominator
 pub in_lowest_terms-zero : (d : ℕ) → 0 < d → in_lowest_terms (record { numerator = pos 0; denominator = d }) ≡ whole (pos 0)
 in_lowest_terms-zero d h =
-    let lowest : IsInLowestTerms (whole (pos 0)) = record {
-      positive = omega arith;
-      reduced = greatest_common_divisor_from 0 1 1 (one-dvd 0, one-dvd 1, λ d p q. q);
-    } in
+    let lowest = (whole_is (pos 0) (omega arith)).lowest in
     in_lowest_terms_same (record { numerator = pos 0; denominator = d }) (whole (pos 0)) h (omega arith) (ap pos (zero-mul 1 ∙ sym (zero-mul d)))
     ∙ in_lowest_terms_lowest (whole (pos 0)) lowest

@@ -1,10 +1,10 @@
 -- Laws of the sums of terms.
-use Rattle.std.proofs.Common.{◌≡◌, ℕ, suc, ◌+◌, ◌*◌, ◌/◌, ◌^◌, ◌<◌, ◌≤◌, ℤ, pos, negsuc, List, [], ◌∷◌, ◌++◌, length, take, drop, get_or, arith, refl, sym, ap, subst, ◌∙◌, ◌-◌, add-one}
+use Rattle.std.proofs.Common.{◌≡◌, ℕ, suc, ◌+◌, ◌*◌, ◌^◌, ◌<◌, ◌≤◌, ℤ, pos, negsuc, List, [], ◌∷◌, ◌++◌, length, take, drop, get_or, arith, refl, sym, ap, subst, ◌∙◌, add-one}
 use Rattle.std.proofs.lemmas.List.{take_more}
 use Rattle.std.proofs.Math.IntN.{neg_ℤ}
 use Rattle.std.proofs.lemmas.Int.{ints}
 use Rattle.std.proofs.Math.Seq.{drop-cons}
-use Rattle.std.proofs.Math.Nat.{one-mul, mul_comm, le-div_iff_mul-le, div-lt_iff_lt-mul}
+use Rattle.std.proofs.Math.Nat.{one-mul}
 use Rattle.std.specs.Prelude.{◌+ℤ◌, ◌*ℤ◌, unsigned_abs, Option, Some, None}
 use Rattle.std.specs.Option.{ForSome}
 use Rattle.og_frac.specs.declared.terms.Term.{Term}
@@ -21,7 +21,7 @@ exchanged : (a b c : ℕ) → 0 < a → 0 < b → 0 < c → least_common_multipl
 exchanged a b c h k l =
     sym (least_common_multiple_assoc a b c h k l) ∙ ap (λ n. least_common_multiple n c) (least_common_multiple_comm a b h k) ∙ least_common_multiple_assoc b a c k h l
 
-pub common_denominator-more : (ts : List Term) (t : Term) → AllFracs ts → IsFrac t.pay → common_denominator (ts ++ t ∷ []) ≡ least_common_multiple t.pay.denominator (common_denominator ts)
+common_denominator-more : (ts : List Term) (t : Term) → AllFracs ts → IsFrac t.pay → common_denominator (ts ++ t ∷ []) ≡ least_common_multiple t.pay.denominator (common_denominator ts)
 common_denominator-more [] t h k = refl
 common_denominator-more (x ∷ ts) t h k =
     ap (least_common_multiple x.pay.denominator) (common_denominator-more ts t h.1 k)
@@ -56,12 +56,6 @@ value_over-step common ts i d lt = ap (value_over common) (drop-cons ts i d lt) 
 pub sign-size : (w : ℕ) (n : ℤ) (s : ℕ) → sign n *ℤ pos (w * unsigned_abs n * s) ≡ pos w *ℤ n *ℤ pos s
 sign-size w (pos n) s = ap pos (one-mul (w * n * s))
 sign-size w (negsuc n) s = ap (λ k. neg_ℤ (pos k)) (one-mul (w * suc n * s)) ∙ sym (neg-times (w * suc n) s)
-
-pub room_in : (times size : ℕ) → 0 < times → size ≤ (2 ^ 126 - 1) / times → times * size < 2 ^ 126
-room_in times size h le = let k = (le-div_iff_mul-le {y = 2 ^ 126 - 1} h).0 le in omega (arith, mul_comm times size)
-
-pub room_out : (times size : ℕ) → 0 < times → (2 ^ 126 - 1) / times < size → 2 ^ 126 ≤ times * size
-room_out times size h lt = let k = (div-lt_iff_lt-mul {x = 2 ^ 126 - 1} h).0 lt in omega (arith, mul_comm times size)
 
 pub next_value : (before part now rest left total : ℤ) → before +ℤ rest ≡ total → rest ≡ part +ℤ left → now ≡ before +ℤ part → now +ℤ left ≡ total
 next_value before part now rest left total h k e = omega (arith, ints)

@@ -96,9 +96,6 @@ value_split common v w pay ts =
     let step : (a b c r : ℤ) → a ≡ b +ℤ c → a +ℤ r ≡ b +ℤ (c +ℤ r) = λ a b c r h. omega (arith, ints) in
     step _ _ _ (value_over common ts) e
 
-pub absolute_split : (common v w : ℕ) (pay : Fraction) (ts : List Term) → absolute_over common (record { weight = v + w; pay = pay } ∷ ts) ≡ absolute_over common (record { weight = v; pay = pay } ∷ record { weight = w; pay = pay } ∷ ts)
-absolute_split common v w pay ts = omega arith
-
 -- a term and the rest, over a denominator that they share
 total_step : (t : Term) (common : ℕ) (rest : ℤ) → IsPositive t → 0 < common → t.pay.denominator ∣ common
     → in_lowest_terms (record { numerator = part_over common t +ℤ rest; denominator = common }) ≡ sum (product (whole (pos t.weight)) t.pay) (in_lowest_terms (record { numerator = rest; denominator = common }))

@@ -121,8 +121,7 @@ impl Frac {
         self.den
     }
 
-    /// The sum: one greatest common divisor, of its numerator's size over the product of the
-    /// denominators and that product.
+    /// The sum: one greatest common divisor, of its two parts over the product of the denominators.
     #[tactic(auto, unfolding(crate::specs::Fraction::sum))]
     pub fn add(self, by: Frac) -> Result<Frac, FracFault>
         ensures exact { IsExact result (sum self by) }
@@ -135,8 +134,8 @@ impl Frac {
         )
     }
 
-    /// The difference: one greatest common divisor, of its numerator's size over the product of the
-    /// denominators and that product.
+    /// The difference: one greatest common divisor, of its two parts over the product of the
+    /// denominators.
     #[tactic(auto, unfolding(crate::specs::Fraction::difference))]
     pub fn sub(self, by: Frac) -> Result<Frac, FracFault>
         ensures exact { IsExact result (difference self by) }
@@ -149,8 +148,7 @@ impl Frac {
         )
     }
 
-    /// The product: one greatest common divisor, of the sizes of the products of the numerators and of
-    /// the denominators.
+    /// The product: one greatest common divisor, of the numerators' product and the denominators'.
     #[tactic(auto, unfolding(crate::specs::Fraction::product))]
     pub fn mul(self, by: Frac) -> Result<Frac, FracFault>
         ensures exact { IsExact result (product self by) }
@@ -214,6 +212,7 @@ impl Ord for Frac {
     }
 }
 
+/// By value, as `Ord`.
 impl PartialOrd for Frac {
     ghost partial_cmp = { as_partial_cmp total_order };
 

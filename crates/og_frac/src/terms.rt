@@ -113,8 +113,9 @@ fn summed(terms: &[Term], common: u64, room: u128) -> Option<Sum>
 impl Sum {
     /// The sum of the terms over the least common multiple of their denominators, where that many
     /// times the sum of sizes still has room in 126 bits. For each term it takes at most one greatest
-    /// common divisor, of the term's denominator and the multiple so far, at most one division for the
-    /// multiple and one for the sum, and a constant number of operations on words beside them.
+    /// common divisor, of the term's denominator and the multiple so far, with a division, then at most
+    /// one division more, and a constant number of other operations on words; and one division in all
+    /// for the room.
     pub fn of(terms: &[Term], times: u64) -> Result<Sum, SumFault>
         requires { 1 ≤ times }
         ensures { IsExactSum terms.now times result }

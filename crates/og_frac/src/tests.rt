@@ -120,6 +120,7 @@ fn fractions_in_lowest_terms(rt: HostRuntime) {
     for (n, d, want) in rows {
         assert_eq!(rt; parts(Frac::new(n, d)), want);
     }
+    assert_eq!(rt; parts(Ok(Frac::whole(-7))), Ok((-7, 1)));
 }
 
 #[test]
