@@ -3,6 +3,7 @@
 
 mod count;
 mod enums;
+mod listed;
 mod rank;
 mod shown;
 mod ty;
@@ -10,6 +11,7 @@ mod value;
 
 pub use count::joint_count;
 pub use enums::{Enums, Family};
+pub use listed::{joint_at_rank, joint_values};
 pub use rank::joint_rank;
 pub use shown::show;
 pub use ty::{Ty, all_fit, all_hold, copy_types, join_all};
