@@ -45,14 +45,6 @@ counted_goes ts i t many c next h p e f =
     by true false f = refl
     by true true f = ap Some ((let stopped : c ≡ min (length (values_of t)) 4097 = cc in λ j. min (min (many * stopped j) 4097 * length rest) 4097) ∙ stopped_product many (length (values_of t)) (length rest) ∙ ap (λ n. min (many * n) 4097) (sym (length_product (values_of t) rest)))
 
-pub counted_stops : (ts : List Ty) (i : ℕ) (t : Ty) (many : ℕ) → i < length ts → t ≡ get_or ts i t → counted (is_finite t) (length (values_of t)) ≡ None → None ≡ counted (list_all is_finite (drop i ts)) (many * length (joint_values_of (drop i ts)))
-counted_stops ts i t many h p e =
-    by (is_finite t) e ∙ sym (λ j. counted (list_all is_finite (drop_at ts i t h p j)) (many * length (joint_values_of (drop_at ts i t h p j))))
-  where
-    by : (here : Bool) → counted here (length (values_of t)) ≡ None → None ≡ counted (here && list_all is_finite (drop (i + 1) ts)) (many * length (joint_values_of (t ∷ drop (i + 1) ts)))
-    by false f = refl
-    by true f = absurd (cc)
-
 pub counted_enum : (family n : ℕ) → Some (min n 4097) ≡ counted (is_finite (ty.Enum family n)) (length (values_of (ty.Enum family n)))
 counted_enum family n =
     ap (λ k. Some (min k 4097)) (sym (length-map-range_with_len (λ index. value.Case family index) 0 n)) ∙ (λ j. counted (sym (is_finite_enum family n) j) (length (sym (values_enum family n) j)))

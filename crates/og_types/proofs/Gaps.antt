@@ -101,3 +101,13 @@ span_past low high r h = by (int_le low high) refl (not_le (low +ℤ pos r) high
     by : (b : Bool) → int_le low high ≡ b → high <ℤ (low +ℤ pos r) → (if b then int_gap low high + 1 else 0) ≤ r
     by true e above = let is : high ≡ low +ℤ pos (int_gap low high) = gap_is low high (le_true low high e) in omega (arith, ints)
     by false e above = omega arith
+
+pub within_span : (low high : ℤ) (r : ℕ) → r < span low high → (low +ℤ pos r) ≤ℤ high
+within_span low high r h = by (int_le (low +ℤ pos r) high) refl
+  where
+    by : (b : Bool) → int_le (low +ℤ pos r) high ≡ b → (low +ℤ pos r) ≤ℤ high
+    by true e = le_true (low +ℤ pos r) high e
+    by false e = absurd (omega (arith, span_past low high r (le_false (low +ℤ pos r) high e)))
+
+pub gap_of : (low : ℤ) (k : ℕ) → int_gap low (low +ℤ pos k) ≡ k
+gap_of low k = let is : low +ℤ pos k ≡ low +ℤ pos (int_gap low (low +ℤ pos k)) = gap_is low (low +ℤ pos k) (omega (arith, ints)) in omega (arith, ints)

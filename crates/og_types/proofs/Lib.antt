@@ -7,3 +7,4 @@ pub mod Gaps
 pub mod Ranks
 pub mod Joint
 pub mod PlaceItems
+pub mod RankLaws

@@ -24,7 +24,7 @@ number_at_place a zero r h = absurd (omega arith)
 number_at_place a (suc n) zero h = ap Some (omega arith)
 number_at_place a (suc n) (suc r) h = number_at_place (a + 1) n r (omega arith) ∙ ap Some (omega arith)
 
-counted_at : (f : ℕ → Value) (n r : ℕ) → r < n → slice_get (map f (range_with_len 0 n)) r ≡ Some (f r)
+pub counted_at : (f : ℕ → Value) (n r : ℕ) → r < n → slice_get (map f (range_with_len 0 n)) r ≡ Some (f r)
 counted_at f n r h = slice_get-map f (range_with_len 0 n) r ∙ ap (option_map f) (number_at_place 0 n r h) ∙ ap (λ k. Some (f k)) (omega arith)
 
 counted_past : (f : ℕ → Value) (n r : ℕ) → n ≤ r → slice_get (map f (range_with_len 0 n)) r ≡ None

@@ -3,6 +3,7 @@
 
 mod count;
 mod enums;
+pub mod laws;
 mod listed;
 mod rank;
 mod shown;
