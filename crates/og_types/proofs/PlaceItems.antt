@@ -1,6 +1,6 @@
 -- Which value stands at a place.
-use Rattle.std.proofs.Common.{◌≡◌, ℕ, ℤ, pos, zero, suc, ◌+◌, ◌*◌, ◌/◌, ◌%◌, ◌<◌, ◌≤◌, Bool, true, false, List, [], ◌∷◌, ◌++◌, length, get_or, drop, take, map, ap, sym, ◌∙◌, refl, inl, inr, append_assoc, arith}
-use Rattle.std.specs.Prelude.{Some, None, Option, slice_get, ◌+ℤ◌, ◌≤ℤ◌, int_le}
+use Rattle.std.proofs.Common.{◌≡◌, ℕ, ℤ, pos, zero, suc, ◌+◌, ◌*◌, ◌/◌, ◌%◌, ◌<◌, ◌≤◌, Bool, true, false, List, [], ◌∷◌, ◌++◌, length, get_or, drop, take, map, ap, sym, subst, ◌∙◌, refl, inl, inr, append_assoc, arith}
+use Rattle.std.specs.Prelude.{Some, None, Option, Result, Ok, Err, IsSome, is_some, IfOk, ◌↔◌, slice_get, ◌+ℤ◌, ◌≤ℤ◌}
 use Rattle.std.specs.Option.{option_map}
 use Rattle.std.specs.List.{range_with_len}
 use Rattle.std.proofs.lemmas.Option.{slice_get-map, slice_get_past, slice_get_cases, slice_get_within, get_or_from_slice_get}
@@ -85,3 +85,14 @@ pub take_goes : {X : Type 0} (xs before next : List X) (i : ℕ) (x : X) → bef
 take_goes xs before next i x e n h =
     n ∙ ap (λ first. first ++ x ∷ []) e
     ∙ sym (take_more xs i x (slice_get_within xs i x (sym h)) ∙ ap (λ y. take i xs ++ y ∷ []) (get_or_from_slice_get xs i x x (sym h)))
+
+some_within : {X : Type 0} (xs : List X) (i : ℕ) (found : Option X) → found ≡ slice_get xs i → IsSome found ↔ (i < length xs)
+some_within xs i found e = elim (slice_get_cases xs i).1 [
+  | inl at ↦ let there : found ≡ Some at.0 = e ∙ at.2 in (λ h. at.1, λ h. ap is_some there)
+  | inr past ↦ let none : found ≡ None = e ∙ past.1 in (λ h. absurd (let never : false ≡ true = sym (ap is_some none) ∙ h in cc), λ h. absurd (omega (arith, past.0)))
+]
+
+-- an item is found exactly below the length
+pub found_within : {X E : Type 0} (xs : List X) (i : ℕ) (result : Result (Option X) E) → IfOk result (λ found. found ≡ slice_get xs i) → IfOk result (λ found. IsSome found ↔ (i < length xs))
+found_within xs i (Ok found) e = some_within xs i found e
+found_within xs i (Err e) h = tt

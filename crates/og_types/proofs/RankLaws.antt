@@ -34,7 +34,7 @@ use Rattle.og_types.specs.Ty.{holds, holds_step, is_finite, is_finite_step, is_b
 use Rattle.og_types.specs.Value.{same, order, order_step}
 use Rattle.og_types.proofs.ValueLevels.{order_tuples}
 use Rattle.og_types.specs.ValueEquality.{same_equal, same_decides, and_true}
-use Rattle.og_types.specs.Values.{values_of, joint_values_of, tuples, rank_of, joint_rank_of, place_of, span}
+use Rattle.og_types.specs.Values.{values_of, joint_values_of, tuples, rank_of, joint_rank_of, place_of, span, IsSmall, AreSmall}
 use Rattle.og_types.proofs.TyLevels.{type_induction, values_enum, values_bool, values_range, values_tuple, values_number}
 use Rattle.og_types.proofs.Products.{StandsAt, product_from, product_at, place_product, place_shorter, mapped_from, together}
 use Rattle.og_types.proofs.PlaceItems.{counted_at}
@@ -355,3 +355,9 @@ first_slowest t ts v w vs ws i j k l m n a b c d e f =
     let two = some_same _ _ (sym f ∙ rank_by_parts t ts w ws j l b d) in
     (λ z. nat_cmp (one z) (two z))
     ∙ together_cmp (length (joint_values_of ts)) i j k l (slice_get_within (joint_values_of ts) k vs (at_joint_rank ts vs k c)) (slice_get_within (joint_values_of ts) l ws (at_joint_rank ts ws l d))
+
+pub rank_is_there : (t : Ty) (v : Value) (found : Option ℕ) → IsSmall t → found ≡ rank_of t v → is_some found ≡ holds t v
+rank_is_there t v found small e = ap is_some e ∙ rank_there t v small.finite
+
+pub joint_rank_is_there : (ts : List Ty) (vs : List Value) (found : Option ℕ) → AreSmall ts → found ≡ joint_rank_of ts vs → is_some found ≡ pointwise holds ts vs
+joint_rank_is_there ts vs found small e = ap is_some e ∙ joint_rank_there ts vs small.finite

@@ -1,4 +1,4 @@
-ghost use Rattle.std.specs.Prelude.{◌≡◌, ◌<◌, ◌^◌, true, unsigned_abs, slice_get, IfOk};
+ghost use Rattle.std.specs.Prelude.{◌≡◌, ◌<◌, ◌^◌, true, unsigned_abs, length, slice_get, IfOk, IsSome, ◌↔◌};
 ghost use Rattle.std.specs.List.{list_all};
 ghost use Rattle.std.specs.Option.{option_map};
 ghost use Rattle.og_types.specs.Ty.{bounds_fit};
@@ -13,9 +13,18 @@ use std::alloc::{AllocError, Global};
 
 impl Ty {
     /// The value at this place, from 0, or `None` where the type hasn't so many values.
+    pub fn at_rank(&self, alloc: Global, r: u32) -> Result<Option<Value>, AllocError>
+        requires small { IsSmall self.now }
+        requires bounds { bounds_fit self.now ≡ true }
+        ensures value { IfOk result (λ found. found ≡ slice_get (values_of self.now) r) }
+        ensures there { IfOk result (λ found. IsSome found ↔ (r < length (values_of self.now))) }
+    {
+        self.item(alloc, r)
+    }
+
     #[cycle(listing)]
     #[tactic(auto, using(crate::proofs::PlaceItems::at_enum, crate::proofs::PlaceItems::at_enum_past))]
-    pub fn at_rank(&self, alloc: Global, r: u32) -> Result<Option<Value>, AllocError>
+    fn item(&self, alloc: Global, r: u32) -> Result<Option<Value>, AllocError>
         requires small { IsSmall self.now }
         requires bounds { bounds_fit self.now ≡ true }
         ensures { IfOk result (λ found. found ≡ slice_get (values_of self.now) r) }
@@ -24,7 +33,7 @@ impl Ty {
             Ty::Enum(family, cases) => Ok(case_at(*family, *cases, r)),
             Ty::Bool => Ok(flag_at(r)),
             Ty::Range(low, high) => Ok(number_at(*low, *high, r)),
-            Ty::Tuple(types) => Ok(tuple_value(joint_at_rank(alloc, types, r)?)),
+            Ty::Tuple(types) => Ok(tuple_value(joint_item(alloc, types, r)?)),
             Ty::Number => Ok(None),
         }
     }
@@ -38,7 +47,7 @@ impl Ty {
         let mut all = List::new(alloc);
         let count = self.count().unwrap_or(0);
         'ranks: for rank in 0..count {
-            match self.at_rank(alloc, rank)? {
+            match self.item(alloc, rank)? {
                 Some(value) => all.add(value)?,
                 None => return Ok(all),
             }
@@ -98,12 +107,21 @@ fn tuple_value(values: Option<List<Value>>) -> Option<Value>
 
 /// The list of one value of each type at this place, from 0, the first type's values slowest, or
 /// `None` where there aren't so many.
-#[cycle(listing)]
 pub fn joint_at_rank(
     alloc: Global,
     types: &List<Ty>,
     r: u32,
 ) -> Result<Option<List<Value>>, AllocError>
+    requires small { AreSmall types.now }
+    requires bounds { list_all bounds_fit types.now ≡ true }
+    ensures value { IfOk result (λ found. found ≡ slice_get (joint_values_of types.now) r) }
+    ensures there { IfOk result (λ found. IsSome found ↔ (r < length (joint_values_of types.now))) }
+{
+    joint_item(alloc, types, r)
+}
+
+#[cycle(listing)]
+fn joint_item(alloc: Global, types: &List<Ty>, r: u32) -> Result<Option<List<Value>>, AllocError>
     requires small { AreSmall types.now }
     requires bounds { list_all bounds_fit types.now ≡ true }
     ensures { IfOk result (λ found. found ≡ slice_get (joint_values_of types.now) r) }
@@ -119,7 +137,7 @@ pub fn joint_at_rank(
             Some(count) => weight /= count,
             None => return Ok(None),
         }
-        match ty.at_rank(alloc, left / weight)? {
+        match ty.item(alloc, left / weight)? {
             Some(value) => all.add(value)?,
             None => return Ok(None),
         }
@@ -137,7 +155,7 @@ pub fn joint_values(alloc: Global, types: &List<Ty>) -> Result<List<List<Value>>
     let mut all = List::new(alloc);
     let count = joint_count(types).unwrap_or(0);
     'ranks: for rank in 0..count {
-        match joint_at_rank(alloc, types, rank)? {
+        match joint_item(alloc, types, rank)? {
             Some(values) => all.add(values)?,
             None => return Ok(all),
         }
