@@ -15,5 +15,8 @@ pub use enums::{Enums, Family};
 pub use listed::{joint_at_rank, joint_values};
 pub use rank::joint_rank;
 pub use shown::show;
-pub use ty::{Ty, all_fit, all_hold, copy_types, join_all};
+pub use ty::{Ty, all_bounds_fit, all_fit, all_hold, copy_types, join_all};
 pub use value::{Value, copy_values};
+
+#[cfg(test)]
+mod tests;

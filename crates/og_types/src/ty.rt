@@ -1,7 +1,8 @@
 ghost use Rattle.std.specs.Prelude.{◌≡◌, ◌↔◌, IfOk, IsTrue, map};
+ghost use Rattle.std.specs.List.{list_all};
 ghost use Rattle.std.specs.Option.{option_map};
 ghost use Rattle.std.specs.Cmp.Lexicographic.{pointwise};
-ghost use Rattle.og_types.specs.Ty.{same, fits, join, joins, holds, is_between};
+ghost use Rattle.og_types.specs.Ty.{same, fits, join, joins, holds, is_between, bounds_fit};
 
 use crate::value::Value;
 use og_frac::Frac;
@@ -168,6 +169,34 @@ impl Ty {
             },
         }
     }
+}
+
+impl Ty {
+    /// Whether no bound in the type is -2^63, which no fraction has as its numerator.
+    #[cycle(bounding)]
+    #[tactic(auto, using(crate::proofs::TyLevels::bounds_fit_tuple))]
+    pub fn bounds_fit(&self) -> bool
+        ensures { result ≡ bounds_fit self.now }
+    {
+        match self {
+            Ty::Range(low, high) => low.unsigned_abs() < 1 << 63 && high.unsigned_abs() < 1 << 63,
+            Ty::Tuple(parts) => all_bounds_fit(parts),
+            _ => true,
+        }
+    }
+}
+
+/// Whether no bound in any of the types is -2^63.
+#[cycle(bounding)]
+pub fn all_bounds_fit(types: &List<Ty>) -> bool
+    ensures { result ≡ list_all bounds_fit types.now }
+{
+    'types: for ty in types.as_slice() {
+        if !ty.bounds_fit() {
+            return false;
+        }
+    }
+    true
 }
 
 /// Whether the number is a whole number from the first to the second.
