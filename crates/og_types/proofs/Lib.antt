@@ -6,3 +6,4 @@ pub mod Counts
 pub mod Gaps
 pub mod Ranks
 pub mod Joint
+pub mod FitsLaws

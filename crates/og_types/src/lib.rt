@@ -3,6 +3,7 @@
 
 mod count;
 mod enums;
+pub mod laws;
 mod rank;
 mod shown;
 mod ty;
