@@ -7,3 +7,4 @@ pub mod Gaps
 pub mod Ranks
 pub mod Joint
 pub mod FitsLaws
+pub mod JoinLaws
