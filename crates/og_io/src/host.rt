@@ -1,4 +1,5 @@
-ghost use Rattle.std.specs.Prelude.{◌≡◌, ℕ, List, None, [], ◌≤◌, length, IfOk, IfErr, vec_len};
+ghost use Rattle.std.specs.Prelude.{◌≡◌, ◌≢◌, ℕ, List, None, [], ◌≤◌, length, IfOk, IfErr, vec_len};
+ghost use Rattle.std.specs.IoError.{error_kind};
 ghost use Rattle.og_io.specs.Names.{times};
 ghost use Rattle.og_io.specs.Outside.{Puts};
 ghost use Rattle.og_io.specs.Fakes.{Counts};
@@ -31,7 +32,11 @@ impl<'a, R: rt::Files> HostFiles<'a, R> {
     }
 }
 
-fn fault_of(error: &io::Error) -> LoadFault {
+/// Want of memory where the host says so, and else a failure.
+fn fault_of(error: &io::Error) -> LoadFault
+    ensures memory { error_kind error.now ≡ ErrorKind.OutOfMemory → result ≡ LoadFault.Memory }
+    ensures failed { error_kind error.now ≢ ErrorKind.OutOfMemory → result ≡ LoadFault.Failed }
+{
     if error.kind() == ErrorKind::OutOfMemory {
         LoadFault::Memory
     } else {

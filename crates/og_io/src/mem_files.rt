@@ -50,8 +50,7 @@ impl MemFiles {
         ensures refused { OnErr result (self.new ≡ self.old) }
     {
         let name = Text::from(alloc, name)?;
-        let mut held = List::new(alloc);
-        held.extend_from_slice(bytes)?;
+        let held = List::from_slice(alloc, bytes)?;
         self.files.add((name, held))
     }
 

@@ -6,7 +6,7 @@ use og_list::{List, Text};
 use std::alloc::{AllocError, Global};
 
 /// Adds a copy of the name at the end of the list.
-pub fn note(names: &mut List<Text>, alloc: Global, name: &str) -> Result<(), AllocError>
+pub(crate) fn note(names: &mut List<Text>, alloc: Global, name: &str) -> Result<(), AllocError>
     ensures ok { OnOk result (names.new ≡ names.old ++ name.now ∷ []) }
     ensures moved { OnOk result (OnlyMoves name.now (times names.old) (times names.new)) }
     ensures rose { OnOk result (Rose (times names.old name.now) (times names.new name.now)) }
@@ -18,7 +18,7 @@ pub fn note(names: &mut List<Text>, alloc: Global, name: &str) -> Result<(), All
 }
 
 /// Takes off the last name.
-pub fn forget(names: &mut List<Text>)
+pub(crate) fn forget(names: &mut List<Text>)
     ensures { (front : List (List ℕ)) (last : List ℕ) → names.old ≡ front ++ last ∷ [] → names.new ≡ front }
 {
     let _ = names.pop();

@@ -3,7 +3,7 @@ ghost use Rattle.og_lex.specs.Characters.{has};
 
 /// What the characters of a run have in common.
 #[derive(Clone, Copy)]
-pub enum Class {
+pub(crate) enum Class {
     /// May go on a name.
     NameRest,
     /// An ASCII digit.
@@ -19,7 +19,7 @@ pub enum Class {
 impl Class {
     /// Whether the character is of the class.
     #[tactic(auto, unfolding(crate::specs::Characters::has))]
-    pub fn has(self, c: char) -> bool
+    pub(crate) fn has(self, c: char) -> bool
         ensures { result ≡ has self c }
     {
         match self {

@@ -250,7 +250,7 @@ fn token_at(text: &str, place: u32) -> Result<(Kind, &str), LexFault>
 /// What stands at the front of the text, which stands at the place: a token of the kind, or a blank
 /// or a comment. With it comes the text behind it.
 #[tactic(auto, unfolding(crate::specs::Reading::piece_at, crate::specs::Characters::has))]
-pub fn piece_at(text: &str, place: u32) -> Result<(Option<Kind>, &str), LexFault>
+pub(crate) fn piece_at(text: &str, place: u32) -> Result<(Option<Kind>, &str), LexFault>
     ensures cases { MatchResult result
         (λ x. piece_at place (chars text.now) ≡ Ok (x.0, chars x.1.now))
         (λ fault. piece_at place (chars text.now) ≡ Err fault) }

@@ -154,7 +154,7 @@ fn texts_with_tokens(rt: HostRuntime) -> Result<(), Fail> {
         ("\"a b\" \"\u{e9}\"", "Text 0..5;Text 6..10;"),
     ];
     for (text, want) in cases {
-        assert_eq!(rt; shown(rt.alloc(), text)?.as_str(), want);
+        assert_eq!(rt; shown(rt.alloc(), text)?.as_str(), want, "{text}");
     }
     Ok(())
 }
@@ -179,7 +179,7 @@ fn texts_with_a_fault(rt: HostRuntime) -> Result<(), Fail> {
         ("@ \"", "BadChar(0)"),
     ];
     for (text, want) in cases {
-        assert_eq!(rt; shown(rt.alloc(), text)?.as_str(), want);
+        assert_eq!(rt; shown(rt.alloc(), text)?.as_str(), want, "{text}");
     }
     Ok(())
 }

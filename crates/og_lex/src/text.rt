@@ -7,7 +7,7 @@ ghost use Rattle.og_lex.specs.Reading.{strip};
 use crate::class::Class;
 
 /// The first character of the text, and the text behind it.
-pub fn first(text: &str) -> Option<(char, &str)>
+pub(crate) fn first(text: &str) -> Option<(char, &str)>
     ensures cases { MatchOption result (chars text.now ≡ [])
         (λ x. chars text.now ≡ x.0 ∷ chars x.1.now) }
     ensures whole { MatchOption result (text.now ≡ [])
@@ -21,7 +21,7 @@ pub fn first(text: &str) -> Option<(char, &str)>
 }
 
 /// The text behind its longest front of characters of the class.
-pub fn after(text: &str, class: Class) -> &str
+pub(crate) fn after(text: &str, class: Class) -> &str
     ensures rest { chars result.now ≡ behind (has class) (chars text.now) }
     ensures whole { text.now ≡ encode_utf8_all (run (has class) (chars text.now)) ++ result.now }
 {
@@ -36,7 +36,7 @@ pub fn after(text: &str, class: Class) -> &str
 }
 
 /// Cuts the text behind its longest front of characters of the class.
-pub fn cut(text: &str, class: Class) -> (&str, &str)
+pub(crate) fn cut(text: &str, class: Class) -> (&str, &str)
     ensures front { result.0.now ≡ encode_utf8_all (run (has class) (chars text.now)) }
     ensures rest { chars result.1.now ≡ behind (has class) (chars text.now) }
     ensures utf8 { IsUtf8 result.1.now }
@@ -46,7 +46,7 @@ pub fn cut(text: &str, class: Class) -> (&str, &str)
 }
 
 /// The text behind the front, if it begins with it.
-pub fn strip<'a>(text: &'a str, front: &str) -> Option<&'a str>
+pub(crate) fn strip<'a>(text: &'a str, front: &str) -> Option<&'a str>
     requires { IsTrue (list_all is_ascii_char front.now) }
     ensures cases { MatchOption result (strip front.now (chars text.now) ≡ None)
         (λ rest. strip front.now (chars text.now) ≡ Some (chars rest.now)) }

@@ -13,7 +13,7 @@ use std::alloc::Global;
 
 /// `KEYWORD : ;`, or nothing.
 #[tactic(auto, unfolding(crate::specs::Grammar::empty_field))]
-pub fn empty_field(tokens: &mut Tokens<'_>, keyword: Word) -> Result<(), Fault>
+pub(crate) fn empty_field(tokens: &mut Tokens<'_>, keyword: Word) -> Result<(), Fault>
     ensures { Reads (spec.empty_field keyword) tokens.old result tokens.new }
 {
     if tokens.sees(Kind::Word(keyword)) {
@@ -114,7 +114,11 @@ fn begins_line(text: &[u8], tokens: &Tokens<'_>) -> bool
 
 /// Lines, as many as there are.
 #[tactic(auto, unfolding(crate::specs::Grammar::lines))]
-pub fn lines(alloc: Global, text: &[u8], tokens: &mut Tokens<'_>) -> Result<List<Line>, Fault>
+pub(crate) fn lines(
+    alloc: Global,
+    text: &[u8],
+    tokens: &mut Tokens<'_>,
+) -> Result<List<Line>, Fault>
     ensures { Reads (spec.lines text.now) tokens.old result tokens.new }
 {
     let mut lines = List::new(alloc);

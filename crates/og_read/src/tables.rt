@@ -100,7 +100,7 @@ fn rows_inside(alloc: Global, text: &[u8], tokens: &mut Tokens<'_>) -> Result<Li
 
 /// `table (KEY, ..) { ROW .. };`
 #[tactic(auto, unfolding(crate::specs::Grammar::table))]
-pub fn table(
+pub(crate) fn table(
     alloc: Global,
     text: &[u8],
     tokens: &mut Tokens<'_>,

@@ -187,7 +187,7 @@ fn games(rt: HostRuntime) -> Result<(), Fail> {
         ),
     ] {
         let read = game_of(alloc, pieces)?;
-        assert_eq!(rt; read.as_str(), shown);
+        assert_eq!(rt; read.as_str(), shown, "{pieces}");
     }
     Ok(())
 }
@@ -206,7 +206,7 @@ fn strategies(rt: HostRuntime) -> Result<(), Fail> {
         ("strategy player1 { ( ) -> Defect ; }", "none"),
     ] {
         let read = strategy_of(alloc, pieces)?;
-        assert_eq!(rt; read.as_str(), shown);
+        assert_eq!(rt; read.as_str(), shown, "{pieces}");
     }
     Ok(())
 }

@@ -1,11 +1,11 @@
-ghost use Rattle.std.specs.Prelude.{◌≡◌, IfOk};
+ghost use Rattle.std.specs.Prelude.{◌≡◌};
 ghost use Rattle.og_grammar.specs.Reads.{Reads};
 ghost use Rattle.og_read.specs.Grammar as spec;
 
 use og_grammar::{Fault, Tokens};
 use og_lex::{Kind, Mark, Token};
 use og_list::List;
-use std::alloc::{AllocError, Global};
+use std::alloc::Global;
 
 /// The bytes of the text from `start` up to `end`, as far as there are any.
 fn part(text: &[u8], start: usize, end: usize) -> &[u8]
@@ -20,40 +20,29 @@ fn part(text: &[u8], start: usize, end: usize) -> &[u8]
     if len < rest.len() { &rest[..len] } else { rest }
 }
 
-/// A list of the same bytes.
-fn copy(alloc: Global, bytes: &[u8]) -> Result<List<u8>, AllocError>
-    ensures { IfOk result (λ made. made ≡ bytes.now) }
-{
-    let mut made = List::new(alloc);
-    'bytes: for byte in bytes {
-        made.add(*byte)?;
-    }
-    Ok(made)
-}
-
 /// The bytes of a name.
 #[tactic(auto, unfolding(crate::specs::Grammar::name))]
-pub fn name(alloc: Global, text: &[u8], tokens: &mut Tokens<'_>) -> Result<List<u8>, Fault>
+pub(crate) fn name(alloc: Global, text: &[u8], tokens: &mut Tokens<'_>) -> Result<List<u8>, Fault>
     ensures { Reads (spec.name text.now) tokens.old result tokens.new }
 {
     let token = tokens.take(Kind::Name)?;
-    Ok(copy(alloc, part(text, token.start as usize, token.end as usize))?)
+    Ok(List::from_slice(alloc, part(text, token.start as usize, token.end as usize))?)
 }
 
 /// The bytes of a text, without its quotes.
 #[tactic(auto, unfolding(crate::specs::Grammar::quoted))]
-pub fn quoted(alloc: Global, text: &[u8], tokens: &mut Tokens<'_>) -> Result<List<u8>, Fault>
+pub(crate) fn quoted(alloc: Global, text: &[u8], tokens: &mut Tokens<'_>) -> Result<List<u8>, Fault>
     ensures { Reads (spec.quoted text.now) tokens.old result tokens.new }
 {
     let token = tokens.take(Kind::Text)?;
     let start = token.start as usize + 1;
     let end = (token.end as usize).saturating_sub(1);
-    Ok(copy(alloc, part(text, start, end))?)
+    Ok(List::from_slice(alloc, part(text, start, end))?)
 }
 
 /// The value of a number.
 #[tactic(auto, unfolding(crate::specs::Grammar::number))]
-pub fn number(tokens: &mut Tokens<'_>) -> Result<u64, Fault>
+pub(crate) fn number(tokens: &mut Tokens<'_>) -> Result<u64, Fault>
     ensures { Reads spec.number tokens.old result tokens.new }
 {
     match tokens.take(Kind::Number(0))?.kind {
@@ -73,7 +62,11 @@ fn next_name(alloc: Global, text: &[u8], tokens: &mut Tokens<'_>) -> Result<List
 
 /// `NAME, NAME, ..`, one or more.
 #[tactic(auto, unfolding(crate::specs::Grammar::names))]
-pub fn names(alloc: Global, text: &[u8], tokens: &mut Tokens<'_>) -> Result<List<List<u8>>, Fault>
+pub(crate) fn names(
+    alloc: Global,
+    text: &[u8],
+    tokens: &mut Tokens<'_>,
+) -> Result<List<List<u8>>, Fault>
     ensures { Reads (spec.names text.now) tokens.old result tokens.new }
 {
     let mut names = List::new(alloc);
@@ -86,7 +79,7 @@ pub fn names(alloc: Global, text: &[u8], tokens: &mut Tokens<'_>) -> Result<List
 
 /// The token of the name `main`.
 #[tactic(auto, unfolding(crate::specs::Grammar::main, og_grammar::specs::Reading::read_token))]
-pub fn main_name(text: &[u8], tokens: &mut Tokens<'_>) -> Result<Token, Fault>
+pub(crate) fn main_name(text: &[u8], tokens: &mut Tokens<'_>) -> Result<Token, Fault>
     ensures { Reads (spec.main text.now) tokens.old result tokens.new }
 {
     let token = tokens.take(Kind::Name)?;

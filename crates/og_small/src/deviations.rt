@@ -1,7 +1,7 @@
 ghost use Rattle.std.specs.Prelude.{◌≡◌, ◌<◌, ◌++◌, [], List, flat_map, option_to_list, slice_set, IfOk, OnOk};
 ghost use Rattle.og_small.specs.Meaning.{choices_of, deviation, deviations_at, deviations};
 
-use crate::copies::{copy_name, copy_names};
+use crate::copies::copy_names;
 use crate::pay::total;
 use crate::rules::cases_of;
 use crate::{Line, Section, SmallGame};
@@ -22,12 +22,12 @@ pub struct Deviation {
 }
 
 /// What the sections choose.
-pub fn choices_of(alloc: Global, sections: &[Section]) -> Result<List<List<u8>>, AllocError>
+pub(crate) fn choices_of(alloc: Global, sections: &[Section]) -> Result<List<List<u8>>, AllocError>
     ensures { IfOk result (λ made. made ≡ choices_of sections.now) }
 {
     let mut made = List::new(alloc);
     'sections: for section in sections {
-        made.add(copy_name(alloc, section.choice.as_slice())?)?;
+        made.add(List::from_slice(alloc, section.choice.as_slice())?)?;
     }
     Ok(made)
 }
@@ -43,7 +43,7 @@ fn changed(
 {
     let mut made = copy_names(alloc, choices)?;
     if at < made.len() {
-        made.set(at, copy_name(alloc, action)?);
+        made.set(at, List::from_slice(alloc, action)?);
     }
     Ok(made)
 }
@@ -68,8 +68,8 @@ fn deviation_by(
     }
     Ok(Some(Deviation {
         line: number,
-        agent: copy_name(alloc, line.agent.as_slice())?,
-        action: copy_name(alloc, action)?,
+        agent: List::from_slice(alloc, line.agent.as_slice())?,
+        action: List::from_slice(alloc, action)?,
         gain: after - before,
     }))
 }
@@ -115,7 +115,7 @@ fn add_line(
 }
 
 /// All deviations from the joint choice, by line and then by case.
-pub fn find_deviations(
+pub(crate) fn find_deviations(
     alloc: Global,
     game: &SmallGame,
     choices: &[List<u8>],

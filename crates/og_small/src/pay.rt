@@ -37,7 +37,7 @@ fn is_played(lines: &[Line], choices: &[List<u8>], keys: &[Key], row: &Row) -> b
 }
 
 /// The number in the line's table at the joint choice.
-pub fn pay(lines: &[Line], choices: &[List<u8>], line: &Line) -> u64
+fn pay(lines: &[Line], choices: &[List<u8>], line: &Line) -> u64
     ensures { result ≡ pay lines.now choices.now line.now }
 {
     let keys = line.keys.as_slice();
@@ -51,7 +51,7 @@ pub fn pay(lines: &[Line], choices: &[List<u8>], line: &Line) -> u64
 }
 
 /// The sum of the payments of the agent's lines.
-pub fn total(lines: &[Line], choices: &[List<u8>], agent: &[u8]) -> u128
+pub(crate) fn total(lines: &[Line], choices: &[List<u8>], agent: &[u8]) -> u128
     ensures { result ≡ total lines.now choices.now agent.now }
 {
     let mut total = 0u128;

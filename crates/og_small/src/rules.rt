@@ -4,7 +4,7 @@ ghost use Rattle.std.specs.Prelude.{◌++◌, [], ◌∷◌, ◌^◌, ◌==◌, 
 ghost use Rattle.std.specs.List.{list_all, list_any};
 ghost use Rattle.og_small.specs.Rules.{same_names, has_name, all_differ, given_names, cases_of, is_output, joint, columns_of, rows_at, is_complete, are_keys_good, is_line_accepted, are_names_good, is_accepted, suits, fits};
 
-use crate::copies::{copy_name, copy_names};
+use crate::copies::copy_names;
 use crate::{Key, Line, Row, Section, SmallGame, TypeDecl};
 use og_list::List;
 use std::alloc::{AllocError, Global};
@@ -13,17 +13,7 @@ use std::alloc::{AllocError, Global};
 fn same_names(these: &[List<u8>], those: &[List<u8>]) -> bool
     ensures { result ≡ same_names these.now those.now }
 {
-    if these.len() != those.len() {
-        return false;
-    }
-    'names: for i in 0..these.len() {
-        let this = &these[i];
-        let that = &those[i];
-        if this.as_slice() != that.as_slice() {
-            return false;
-        }
-    }
-    true
+    these == those
 }
 
 /// Whether the name stands in the list.
@@ -47,7 +37,7 @@ fn all_differ(names: &[List<u8>]) -> bool
 }
 
 /// The cases of the type that has the name.
-pub fn cases_of<'a>(types: &'a [TypeDecl], name: &[u8]) -> Option<&'a List<List<u8>>>
+pub(crate) fn cases_of<'a>(types: &'a [TypeDecl], name: &[u8]) -> Option<&'a List<List<u8>>>
     ensures { option_copied result ≡ cases_of types.now name.now }
 {
     match types.iter().find(|t| t.name.as_slice() == name) {
@@ -82,7 +72,7 @@ fn add_type_names(
     ensures { OnOk result (names.new ≡ names.old ++ flat_map (λ t. t.name ∷ t.cases) types.now) }
 {
     'types: for one in types {
-        names.add(copy_name(alloc, one.name.as_slice())?)?;
+        names.add(List::from_slice(alloc, one.name.as_slice())?)?;
         add_names(names, alloc, one.cases.as_slice())?;
     }
     Ok(())
@@ -93,7 +83,7 @@ fn add_names(names: &mut List<List<u8>>, alloc: Global, more: &[List<u8>]) -> Re
     ensures { OnOk result (names.new ≡ names.old ++ more.now) }
 {
     'more: for name in more {
-        names.add(copy_name(alloc, name.as_slice())?)?;
+        names.add(List::from_slice(alloc, name.as_slice())?)?;
     }
     Ok(())
 }
@@ -106,7 +96,7 @@ fn given_names(alloc: Global, game: &SmallGame) -> Result<List<List<u8>>, AllocE
     add_type_names(&mut names, alloc, game.types.as_slice())?;
     let lines = game.lines.as_slice();
     'lines: for line in lines {
-        names.add(copy_name(alloc, line.output.as_slice())?)?;
+        names.add(List::from_slice(alloc, line.output.as_slice())?)?;
     }
     Ok(names)
 }
@@ -116,7 +106,7 @@ fn prepended(alloc: Global, name: &[u8], names: &[List<u8>]) -> Result<List<List
     ensures { IfOk result (λ made. made ≡ name.now ∷ names.now) }
 {
     let mut made = List::new(alloc);
-    made.add(copy_name(alloc, name)?)?;
+    made.add(List::from_slice(alloc, name)?)?;
     add_names(&mut made, alloc, names)?;
     Ok(made)
 }

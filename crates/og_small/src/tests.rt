@@ -1,12 +1,11 @@
 use super::*;
-use crate::copies::copy_name;
 use og_list::List;
 use std::alloc::{AllocError, Global};
 use std::str::SplitWhitespace;
 use std::test::Fail;
 
 fn name(alloc: Global, text: &str) -> Result<List<u8>, AllocError> {
-    copy_name(alloc, text.as_bytes())
+    List::from_slice(alloc, text.as_bytes())
 }
 
 fn names(alloc: Global, words: SplitWhitespace<'_>) -> Result<List<List<u8>>, AllocError> {

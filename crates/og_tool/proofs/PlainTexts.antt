@@ -10,18 +10,14 @@ use Rattle.og_lex.specs.Spelling.{AreTokens, Lexed}
 use Rattle.og_tool.specs.Texts.{are_gaps_blank, is_ascii, IsPlain}
 use Prim.Native.Nat.{zero, suc}
 
+both : (p : Bool) {q : Bool} → (p && q) ≡ true → (p ≡ true) × (q ≡ true)
+both true e = (cc, e)
+both false e = (cc, cc)
+
 ascii_at : (text : List ℕ) → is_ascii text ≡ true → (i : ℕ) → get_or text i 0 < 128
 ascii_at [] all i = omega arith
 ascii_at (b ∷ bs) all zero = ltb-true b 128 (both (ltb b 128) all).0
-  where
-    both : (p : Bool) {q : Bool} → (p && q) ≡ true → (p ≡ true) × (q ≡ true)
-    both true e = (cc, e)
-    both false e = (cc, cc)
 ascii_at (b ∷ bs) all (suc i) = ascii_at bs (both (ltb b 128) all).1 i
-  where
-    both : (p : Bool) {q : Bool} → (p && q) ≡ true → (p ≡ true) × (q ≡ true)
-    both true e = (cc, e)
-    both false e = (cc, cc)
 
 pub ascii_is_utf8 : (text : List ℕ) → is_ascii text ≡ true → IsUtf8 text
 ascii_is_utf8 text all = IsUtf8-from_ascii text (ascii_at text all)

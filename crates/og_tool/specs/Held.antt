@@ -1,10 +1,6 @@
 -- What a text is known to be, where the files tell it.
 use Rattle.std.specs.Prelude.{◌≡◌, ℕ, List, Option, IfSome}
 
--- the most bytes that a text may have
-abbrev pub longest : ℕ
-longest = 1048576
-
 -- the text may be the one that is held: it is, where that is told
 abbrev pub MayHold : Option (List ℕ) → List ℕ → Type 0
 MayHold held text = IfSome held (λ told. text ≡ told)

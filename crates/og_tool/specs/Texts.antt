@@ -1,6 +1,7 @@
 -- Which texts are small games and small strategies.
 use Rattle.std.specs.Prelude.{◌≡◌, ℕ, ◌≤◌, nat_lt, Bool, true, ◌&&◌, Option, MatchOption, List, [], ◌∷◌, length, drop, slice_range}
 use Rattle.std.specs.List.{list_all}
+use Rattle.og_lex.specs.declared.lexer.TheConstants.{MAX_TEXT}
 use Rattle.og_lex.specs.declared.token.Token.{Token}
 use Rattle.og_lex.specs.Characters.{is_blank}
 use Rattle.og_lex.specs.Spelling.{AreTokens}
@@ -8,7 +9,6 @@ use Rattle.og_small.specs.declared.tree.SmallGame.{SmallGame}
 use Rattle.og_small.specs.declared.tree.Section.{Section}
 use Rattle.og_small.specs.Rules.{is_accepted}
 use Rattle.og_read.specs.Spelled.{SpellsGame, SpellsStrategy}
-use Rattle.og_tool.specs.Held.{longest}
 
 -- From a place on, only blanks stand round the tokens.
 abbrev pub are_gaps_blank : List ℕ → ℕ → List Token → Bool
@@ -20,7 +20,7 @@ is_ascii text = list_all (λ byte. nat_lt byte 128) text
 
 -- A text that isn't too long, of ASCII and with no comment, and its tokens.
 pub record IsPlain (text : List ℕ) (ts : List Token) : Type 0 where
-  pub short : length text ≤ longest
+  pub short : length text ≤ MAX_TEXT
   pub ascii : is_ascii text ≡ true
   pub tokens : AreTokens text ts
   pub no_comment : are_gaps_blank text 0 ts ≡ true

@@ -17,14 +17,14 @@ use std::alloc::{AllocError, Global};
 
 /// What to write, and the status to end with.
 #[derive(Debug, Drop)]
-pub struct Answer {
+pub(crate) struct Answer {
     pub status: Status,
     pub bytes: List<u8>,
 }
 
 /// What came of the game's file.
 #[derive(Debug, Drop)]
-pub enum GameStep {
+enum GameStep {
     Accepted(SmallGame),
     Refused(Answer),
 }
@@ -34,8 +34,7 @@ fn line(alloc: Global, status: Status, line: &[u8]) -> Result<Answer, AllocError
     ensures ends { IfOk result (λ a. a.status ≡ status) }
     ensures writes { IfOk result (λ a. a.bytes ≡ line.now) }
 {
-    let mut bytes = List::new(alloc);
-    bytes.extend_from_slice(line)?;
+    let bytes = List::from_slice(alloc, line)?;
     Ok(Answer { status, bytes })
 }
 
@@ -133,7 +132,7 @@ fn check<F: Files>(
 }
 
 /// What to write for the words, and the status to end with.
-pub fn answer_words<F: Files>(
+pub(crate) fn answer_words<F: Files>(
     alloc: Global,
     words: &[String],
     files: &mut F,

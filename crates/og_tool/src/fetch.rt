@@ -3,27 +3,29 @@ ghost use Rattle.og_io.specs.Outside.{OnlyMoves};
 ghost use Rattle.og_tool.specs.Fetching.{Fetches};
 
 use og_io::{Files, LoadFault};
+use og_lex::MAX_TEXT;
 use std::alloc::{AllocError, Global};
 
 /// What came of reading a file, memory aside.
 #[derive(Debug, Drop)]
-pub enum Fetched {
+pub(crate) enum Fetched {
     Text(Vec<u8>),
     /// The text is longer than a text may be.
     TooLong,
     Failed,
 }
 
-/// The most bytes that a text may have.
-const LONGEST: usize = 1_048_576;
-
 /// Reads a text.
-pub fn fetch<F: Files>(alloc: Global, file: &str, files: &mut F) -> Result<Fetched, AllocError>
+pub(crate) fn fetch<F: Files>(
+    alloc: Global,
+    file: &str,
+    files: &mut F,
+) -> Result<Fetched, AllocError>
     ensures held { (name : List ℕ) → F.held files.new name ≡ F.held files.old name }
     ensures moved { OnlyMoves file.now (F.faults files.old) (F.faults files.new) }
     ensures fetches { IfOk result (Fetches file.now (F.held files.old file.now) (F.faults files.old) (F.faults files.new)) }
 {
-    match files.load(alloc, file, LONGEST) {
+    match files.load(alloc, file, MAX_TEXT) {
         Ok(text) => Ok(Fetched::Text(text)),
         Err(LoadFault::Long) => Ok(Fetched::TooLong),
         Err(LoadFault::Failed) => Ok(Fetched::Failed),

@@ -3,16 +3,12 @@ ghost use Rattle.std.specs.List.{list_all};
 ghost use Rattle.og_lex.specs.declared.token.Token.{Token};
 ghost use Rattle.og_lex.specs.Characters.{is_blank};
 ghost use Rattle.og_lex.specs.Spelling.{AreInOrder};
-ghost use Rattle.og_tool.specs.Held.{longest};
 ghost use Rattle.og_tool.specs.Texts.{are_gaps_blank, is_ascii, IsPlain, ReadsPlain};
 
-use og_lex::{LexFault, Token, lex, one_lexing};
+use og_lex::{LexFault, MAX_TEXT, Token, lex, one_lexing};
 use og_list::List;
 use std::alloc::{AllocError, Global};
 use std::str;
-
-/// The most bytes that a text may have.
-pub const LONGEST: usize = 1_048_576;
 
 /// Whether all bytes are blanks.
 fn are_blank(bytes: &[u8]) -> bool
@@ -55,10 +51,10 @@ fn are_gaps_blank(text: &[u8], tokens: &[Token]) -> bool
 
 /// The text of ASCII bytes, or None where a byte isn't ASCII or there are too many.
 fn ascii_text(bytes: &[u8]) -> Option<&str>
-    ensures some { IfSome result (λ text. (text.now ≡ bytes.now) × (length bytes.now ≤ longest) × (is_ascii bytes.now ≡ true)) }
-    ensures none { IfNone result ((length bytes.now ≤ longest) → is_ascii bytes.now ≡ false) }
+    ensures some { IfSome result (λ text. (text.now ≡ bytes.now) × (length bytes.now ≤ MAX_TEXT) × (is_ascii bytes.now ≡ true)) }
+    ensures none { IfNone result ((length bytes.now ≤ MAX_TEXT) → is_ascii bytes.now ≡ false) }
 {
-    if bytes.len() > LONGEST || !is_ascii(bytes) {
+    if bytes.len() > MAX_TEXT || !is_ascii(bytes) {
         return None;
     }
     match str::from_utf8(bytes) {
@@ -68,7 +64,7 @@ fn ascii_text(bytes: &[u8]) -> Option<&str>
 }
 
 /// The tokens of the text, if it is plain: not too long, of ASCII, and with no comment.
-pub fn plain_tokens(alloc: Global, bytes: &[u8]) -> Result<Option<List<Token>>, AllocError>
+pub(crate) fn plain_tokens(alloc: Global, bytes: &[u8]) -> Result<Option<List<Token>>, AllocError>
     ensures { IfOk result (ReadsPlain bytes.now) }
 {
     one_lexing();

@@ -11,7 +11,7 @@ use og_small::{Section, SmallGame, accepts};
 use std::alloc::{AllocError, Global};
 
 /// The small game that the text spells, if it spells one that is accepted.
-pub fn game_of(alloc: Global, text: &[u8]) -> Result<Option<SmallGame>, AllocError>
+pub(crate) fn game_of(alloc: Global, text: &[u8]) -> Result<Option<SmallGame>, AllocError>
     ensures { IfOk result (ReadsGame text.now) }
 {
     one_game();
@@ -33,7 +33,7 @@ pub fn game_of(alloc: Global, text: &[u8]) -> Result<Option<SmallGame>, AllocErr
 }
 
 /// The sections of the small strategy that the text spells, if it spells some.
-pub fn strategy_of(alloc: Global, text: &[u8]) -> Result<Option<List<Section>>, AllocError>
+pub(crate) fn strategy_of(alloc: Global, text: &[u8]) -> Result<Option<List<Section>>, AllocError>
     ensures { IfOk result (ReadsStrategy text.now) }
 {
     one_lexing();

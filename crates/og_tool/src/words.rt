@@ -12,7 +12,7 @@ fn is_file_name(word: &str) -> bool
 }
 
 /// The game's and the strategy's file, where the words are `check GAME STRATEGY`.
-pub fn named(words: &[String]) -> Option<(&str, &str)>
+pub(crate) fn named(words: &[String]) -> Option<(&str, &str)>
     ensures { MatchOption result (named (map string_bytes words.now) ≡ None)
         (λ files. named (map string_bytes words.now) ≡ Some (record { game = files.0.now; strategy = files.1.now })) }
 {

@@ -12,7 +12,7 @@ use Rattle.og_types.specs.declared.value.Value.{Value}
 use Rattle.og_types.specs.declared.ty.Ty.{Ty}
 use Rattle.og_types.specs.declared.ty.Ty.TheVariants as ty
 use Rattle.og_types.specs.Ty.{is_finite}
-use Rattle.og_types.specs.Values.{values_of, joint_values_of, counted, span}
+use Rattle.og_types.specs.Values.{values_of, joint_values_of, counted, span, IsSmall, AreSmall}
 use Rattle.og_types.specs.declared.value.Value.TheVariants as value
 use Rattle.og_types.proofs.Lists.{drop_at}
 use Rattle.og_types.proofs.TyLevels.{is_finite_tuple, values_tuple, is_finite_enum, values_enum, is_finite_bool, values_bool, is_finite_range, values_range}
@@ -45,14 +45,6 @@ counted_goes ts i t many c next h p e f =
     by true false f = refl
     by true true f = ap Some ((let stopped : c ≡ min (length (values_of t)) 4097 = cc in λ j. min (min (many * stopped j) 4097 * length rest) 4097) ∙ stopped_product many (length (values_of t)) (length rest) ∙ ap (λ n. min (many * n) 4097) (sym (length_product (values_of t) rest)))
 
-pub counted_stops : (ts : List Ty) (i : ℕ) (t : Ty) (many : ℕ) → i < length ts → t ≡ get_or ts i t → counted (is_finite t) (length (values_of t)) ≡ None → None ≡ counted (list_all is_finite (drop i ts)) (many * length (joint_values_of (drop i ts)))
-counted_stops ts i t many h p e =
-    by (is_finite t) e ∙ sym (λ j. counted (list_all is_finite (drop_at ts i t h p j)) (many * length (joint_values_of (drop_at ts i t h p j))))
-  where
-    by : (here : Bool) → counted here (length (values_of t)) ≡ None → None ≡ counted (here && list_all is_finite (drop (i + 1) ts)) (many * length (joint_values_of (t ∷ drop (i + 1) ts)))
-    by false f = refl
-    by true f = absurd (cc)
-
 pub counted_enum : (family n : ℕ) → Some (min n 4097) ≡ counted (is_finite (ty.Enum family n)) (length (values_of (ty.Enum family n)))
 counted_enum family n =
     ap (λ k. Some (min k 4097)) (sym (length-map-range_with_len (λ index. value.Case family index) 0 n)) ∙ (λ j. counted (sym (is_finite_enum family n) j) (length (sym (values_enum family n) j)))
@@ -63,3 +55,13 @@ counted_bool = (λ j. counted (sym is_finite_bool j) (length (sym values_bool j)
 pub counted_range : (low high : ℤ) → Some (min (span low high) 4097) ≡ counted (is_finite (ty.Range low high)) (length (values_of (ty.Range low high)))
 counted_range low high =
     ap (λ k. Some (min k 4097)) (sym (length-map-range_with_len (λ k. value.Number (whole (low +ℤ pos k))) 0 (span low high))) ∙ (λ j. counted (sym (is_finite_range low high) j) (length (sym (values_range low high) j)))
+
+few_counted : (finite : Bool) (many n : ℕ) → counted finite many ≡ Some n → n ≤ 4096 → (finite ≡ true) × (many ≤ 4096)
+few_counted true many n e h = let capped : min many 4097 ≡ n = cc in (refl, omega arith)
+few_counted false many n e h = absurd (cc)
+
+pub small_counted : (t : Ty) (n : ℕ) → counted (is_finite t) (length (values_of t)) ≡ Some n → n ≤ 4096 → IsSmall t
+small_counted t n e h = let few = few_counted (is_finite t) (length (values_of t)) n e h in record { finite = few.0; few = few.1 }
+
+pub small_joint_counted : (ts : List Ty) (n : ℕ) → counted (list_all is_finite ts) (length (joint_values_of ts)) ≡ Some n → n ≤ 4096 → AreSmall ts
+small_joint_counted ts n e h = let few = few_counted (list_all is_finite ts) (length (joint_values_of ts)) n e h in record { finite = few.0; few = few.1 }

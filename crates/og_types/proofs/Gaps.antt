@@ -33,6 +33,13 @@ true_le a b h = grind (arith, ints)
 pub false_le : (a b : ℤ) → (a ≤ℤ b → ⊥) → int_le a b ≡ false
 false_le a b h = grind (arith, ints)
 
+pub not_le : (a b : ℤ) → (a ≤ℤ b → ⊥) → b <ℤ a
+not_le a b h = by (int_le a b) refl
+  where
+    by : (t : Bool) → int_le a b ≡ t → b <ℤ a
+    by true e = absurd (h (le_true a b e))
+    by false e = le_not a b e
+
 gap_decides : (low n : ℤ) (k : ℕ) → low ≤ℤ n → Decides (int_gap low n == k) (n ≡ low +ℤ pos k)
 gap_decides low n k h =
     let is : n ≡ low +ℤ pos (int_gap low n) = gap_is low n h in
@@ -79,3 +86,28 @@ between_gap low high q e =
     let above : low ≤ℤ q.numerator = le_true low q.numerator both.0 in
     let test : nat_lt (int_gap low q.numerator) (span low high) ≡ true = lt_span low high q.numerator above ∙ both.1 in
     record { above = above; within = ltb-true (int_gap low q.numerator) (span low high) test }
+
+-- a place is within the span where the number there is at most the other end
+pub span_within : (low high : ℤ) (r : ℕ) → (low +ℤ pos r) ≤ℤ high → r < span low high
+span_within low high r h = by (int_le low high) refl
+  where
+    by : (b : Bool) → int_le low high ≡ b → r < (if b then int_gap low high + 1 else 0)
+    by true e = let is : high ≡ low +ℤ pos (int_gap low high) = gap_is low high (le_true low high e) in omega (arith, ints)
+    by false e = absurd (le_false low high e (omega (arith, ints)))
+
+pub span_past : (low high : ℤ) (r : ℕ) → ((low +ℤ pos r) ≤ℤ high → ⊥) → span low high ≤ r
+span_past low high r h = by (int_le low high) refl (not_le (low +ℤ pos r) high h)
+  where
+    by : (b : Bool) → int_le low high ≡ b → high <ℤ (low +ℤ pos r) → (if b then int_gap low high + 1 else 0) ≤ r
+    by true e above = let is : high ≡ low +ℤ pos (int_gap low high) = gap_is low high (le_true low high e) in omega (arith, ints)
+    by false e above = omega arith
+
+pub within_span : (low high : ℤ) (r : ℕ) → r < span low high → (low +ℤ pos r) ≤ℤ high
+within_span low high r h = by (int_le (low +ℤ pos r) high) refl
+  where
+    by : (b : Bool) → int_le (low +ℤ pos r) high ≡ b → (low +ℤ pos r) ≤ℤ high
+    by true e = le_true (low +ℤ pos r) high e
+    by false e = absurd (omega (arith, span_past low high r (le_false (low +ℤ pos r) high e)))
+
+pub gap_of : (low : ℤ) (k : ℕ) → int_gap low (low +ℤ pos k) ≡ k
+gap_of low k = let is : low +ℤ pos k ≡ low +ℤ pos (int_gap low (low +ℤ pos k)) = gap_is low (low +ℤ pos k) (omega (arith, ints)) in omega (arith, ints)

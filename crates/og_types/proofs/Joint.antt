@@ -8,24 +8,28 @@ use Rattle.og_types.specs.declared.value.Value.{Value}
 use Rattle.og_types.specs.declared.value.Value.TheVariants as value
 use Rattle.og_types.specs.declared.ty.Ty.{Ty}
 use Rattle.og_types.specs.declared.ty.Ty.TheVariants as ty
-use Rattle.og_types.specs.Ty.{is_finite}
+use Rattle.og_types.specs.Ty.{is_finite, bounds_fit}
 use Rattle.og_types.specs.Value.{same}
 use Rattle.og_types.specs.ValueEquality.{and_true}
 use Rattle.og_types.specs.Values.{values_of, joint_values_of, counted, IsSmall, AreSmall, rank_of, joint_rank_of, place_of, span}
 use Rattle.og_types.proofs.Lists.{drop_at, drop_got}
 use Rattle.og_types.proofs.Products.{product, length_product, place_product, together, place_shorter}
-use Rattle.og_types.proofs.TyLevels.{values_range, values_tuple, is_finite_tuple}
-use Rattle.std.proofs.Math.Nat.{mul-div_cancel_left, mul-suc, zero-mul}
+use Rattle.og_types.proofs.TyLevels.{values_range, values_tuple, is_finite_tuple, bounds_fit_tuple}
+use Rattle.std.proofs.Math.Nat.{mul-div_cancel_left, mul-suc, suc-mul, zero-mul}
 use Rattle.std.proofs.lemmas.Nat.{row_fits}
 use Rattle.std.proofs.lemmas.List.{length-map}
 use Rattle.std.proofs.lemmas.List.FromFn.{length-map-range_with_len}
 use Rattle.og_frac.specs.Fraction.{whole}
 
 -- the factors of a product that isn't 0
-factors : (w m r : ℕ) → w ≡ m * r → 0 < w → (0 < m) × (0 < r) × (m ≤ w)
+factors : (w m r : ℕ) → w ≡ m * r → 0 < w → (0 < m) × (0 < r) × (m ≤ w) × (r ≤ w)
 factors w zero r e h = absurd (omega (arith, zero-mul r))
 factors w (suc m) zero e h = absurd (omega arith)
-factors w (suc m) (suc r) e h = (omega arith, omega arith, omega (arith, mul-suc (suc m) r))
+factors w (suc m) (suc r) e h = (omega arith, omega arith, omega (arith, mul-suc (suc m) r), omega (arith, suc-mul m (suc r)))
+
+-- what all types from one on pass, that one and all after it pass
+pub all_at : (test : Ty → Bool) (ts : List Ty) (i : ℕ) (t : Ty) → i < length ts → t ≡ get_or ts i t → list_all test (drop i ts) ≡ true → (test t ≡ true) × (list_all test (drop (i + 1) ts) ≡ true)
+all_at test ts i t h p all = and_true (test t) (list_all test (drop (i + 1) ts)) ((λ j. list_all test (sym (drop_at ts i t h p) j)) ∙ all)
 
 -- what is known of a type among others, whose lists weigh this much from it on
 pub record Part (ts : List Ty) (i : ℕ) (t : Ty) (weight count : ℕ) : Type 0 where
@@ -34,12 +38,13 @@ pub record Part (ts : List Ty) (i : ℕ) (t : Ty) (weight count : ℕ) : Type 0 
   pub some : 0 < count
   pub weighs : weight / count ≡ length (joint_values_of (drop (i + 1) ts))
   pub some_after : 0 < weight / count
+  pub few_after : weight / count ≤ weight
   pub whole : count * (weight / count) ≡ weight
   pub finite_after : list_all is_finite (drop (i + 1) ts) ≡ true
 
 pub part_at : (ts : List Ty) (i : ℕ) (t : Ty) (weight count : ℕ) → i < length ts → t ≡ get_or ts i t → list_all is_finite (drop i ts) ≡ true → weight ≡ length (joint_values_of (drop i ts)) → 0 < weight → weight ≤ 4096 → counted (is_finite t) (length (values_of t)) ≡ Some count → Part ts i t weight count
 part_at ts i t weight count h p finite weighs some few counts =
-    let both = and_true (is_finite t) (list_all is_finite (drop (i + 1) ts)) ((λ j. list_all is_finite (sym (drop_at ts i t h p) j)) ∙ finite) in
+    let both = all_at is_finite ts i t h p finite in
     let many = length (values_of t) in
     let rest = length (joint_values_of (drop (i + 1) ts)) in
     let product_is : weight ≡ many * rest = weighs ∙ (λ j. length (joint_values_of (drop_at ts i t h p j))) ∙ length_product (values_of t) (joint_values_of (drop (i + 1) ts)) in
@@ -54,6 +59,7 @@ part_at ts i t weight count h p finite weighs some few counts =
       some = omega (arith, parts.0);
       weighs = after;
       some_after = omega (arith, parts.1);
+      few_after = omega (arith, parts.3);
       whole = ap (λ n. count * n) after ∙ ap (λ n. n * rest) exact ∙ sym product_is;
       finite_after = both.1;
     }
@@ -61,7 +67,7 @@ part_at ts i t weight count h p finite weighs some few counts =
 -- a type that a number stands in isn't among them
 pub part_finite : (ts : List Ty) (i : ℕ) (t : Ty) → i < length ts → t ≡ get_or ts i t → list_all is_finite (drop i ts) ≡ true → counted (is_finite t) (length (values_of t)) ≡ None → ⊥
 part_finite ts i t h p finite counts =
-    let both = and_true (is_finite t) (list_all is_finite (drop (i + 1) ts)) ((λ j. list_all is_finite (sym (drop_at ts i t h p) j)) ∙ finite) in
+    let both = all_at is_finite ts i t h p finite in
     let none : Some (min (length (values_of t)) 4097) ≡ None = (λ j. counted (sym both.0 j) (length (values_of t))) ∙ counts in
     absurd (cc)
 
@@ -124,3 +130,6 @@ pub row_at : (t : Ty) (v : Value) (place rest count weight : ℕ) → count ≡ 
 row_at t v place rest count weight count_is whole_is e =
     let below : place < length (values_of t) = place_below (same v) (values_of t) place e in
     omega (arith, whole_is, row_fits place rest count rest (omega arith) (omega arith))
+
+pub bounds_tuple : (ts : List Ty) → bounds_fit (ty.Tuple ts) ≡ true → list_all bounds_fit ts ≡ true
+bounds_tuple ts e = sym (bounds_fit_tuple ts) ∙ e

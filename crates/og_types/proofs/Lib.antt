@@ -6,5 +6,7 @@ pub mod Counts
 pub mod Gaps
 pub mod Ranks
 pub mod Joint
+pub mod PlaceItems
+pub mod RankLaws
 pub mod FitsLaws
 pub mod JoinLaws

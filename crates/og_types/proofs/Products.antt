@@ -40,7 +40,7 @@ product_at (x ∷ xs) tails (suc i) j k v vs p q e =
     slice_get_back (map (λ others. x ∷ others) tails) (product xs tails) (i * length tails + j) k (omega (arith, length-map tails (λ others. x ∷ others)))
     ∙ product_at xs tails i j (i * length tails + j) v vs p q refl
 
-mapped_from : {X Y : Type 0} (f : X → Y) (found : Option X) (y : Y) → option_map f found ≡ Some y → (x : X) × (found ≡ Some x) × (y ≡ f x)
+pub mapped_from : {X Y : Type 0} (f : X → Y) (found : Option X) (y : Y) → option_map f found ≡ Some y → (x : X) × (found ≡ Some x) × (y ≡ f x)
 mapped_from f None y e = absurd (cc)
 mapped_from f (Some x) y e = (x, refl, cc)
 

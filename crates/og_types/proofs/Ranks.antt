@@ -142,3 +142,6 @@ rank_range t v low high number p q = sym (rank_at t v ∙ (λ j. rank_by (out-Ty
 
 pub rank_tuple : (t : Ty) (v : Value) (ts : List Ty) (vs : List Value) → t ≡ ty.Tuple ts → v ≡ value.Tuple vs → joint_rank_of ts vs ≡ rank_of t v
 rank_tuple t v ts vs p q = sym (rank_at t v ∙ (λ j. rank_by (out-Ty (p j)) (out-Value (q j))) ∙ (λ j. rank_by (ty.outs-Tuple ts j) (value.outs-Tuple vs j)))
+
+pub rank_bool : (flag : Bool) → rank_of ty.Bool (value.Flag flag) ≡ Some (if flag then 1 else 0)
+rank_bool flag = rank_at ty.Bool (value.Flag flag) ∙ (λ j. rank_by (ty.outs-Bool j) (value.outs-Flag flag j))

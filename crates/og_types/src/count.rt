@@ -1,7 +1,7 @@
 ghost use Rattle.std.specs.Prelude.{◌≡◌, ◌≤◌, ◌*◌, min, length, IfSome};
 ghost use Rattle.std.specs.List.{list_all};
 ghost use Rattle.og_types.specs.Ty.{is_finite};
-ghost use Rattle.og_types.specs.Values.{values_of, joint_values_of, counted, span};
+ghost use Rattle.og_types.specs.Values.{values_of, joint_values_of, counted, span, IsSmall, AreSmall};
 
 use crate::ty::Ty;
 use og_list::List;
@@ -12,9 +12,18 @@ const ENOUGH: u32 = 4097;
 impl Ty {
     /// How many values the type has, or 4,097 where there are more. `None` where a number stands in
     /// the type.
+    #[tactic(auto, using(crate::proofs::Counts::small_counted))]
+    pub fn count(&self) -> Option<u32>
+        ensures many { result ≡ counted (is_finite self.now) (length (values_of self.now)) }
+        ensures at_most { IfSome result (λ n. n ≤ 4097) }
+        ensures small { IfSome result (λ n. n ≤ 4096 → IsSmall self.now) }
+    {
+        self.many()
+    }
+
     #[cycle(counting)]
     #[tactic(auto, using(crate::proofs::Counts::counted_tuple, crate::proofs::Counts::counted_enum, crate::proofs::Counts::counted_range))]
-    pub fn count(&self) -> Option<u32>
+    fn many(&self) -> Option<u32>
         ensures many { result ≡ counted (is_finite self.now) (length (values_of self.now)) }
         ensures at_most { IfSome result (λ n. n ≤ 4097) }
     {
@@ -22,7 +31,7 @@ impl Ty {
             Ty::Enum(_, cases) => Some((*cases).min(ENOUGH)),
             Ty::Bool => Some(2),
             Ty::Range(low, high) => Some(count_between(*low, *high)),
-            Ty::Tuple(parts) => joint_count(parts),
+            Ty::Tuple(parts) => joint_many(parts),
             Ty::Number => None,
         }
     }
@@ -45,14 +54,23 @@ fn count_between(low: i64, high: i64) -> u32
 
 /// How many lists of one value of each type there are, or 4,097 where there are more. `None` where a
 /// number stands in a type.
-#[cycle(counting)]
+#[tactic(auto, using(crate::proofs::Counts::small_joint_counted))]
 pub fn joint_count(types: &List<Ty>) -> Option<u32>
+    ensures many { result ≡ counted (list_all is_finite types.now) (length (joint_values_of types.now)) }
+    ensures at_most { IfSome result (λ n. n ≤ 4097) }
+    ensures small { IfSome result (λ n. n ≤ 4096 → AreSmall types.now) }
+{
+    joint_many(types)
+}
+
+#[cycle(counting)]
+fn joint_many(types: &List<Ty>) -> Option<u32>
     ensures many { result ≡ counted (list_all is_finite types.now) (length (joint_values_of types.now)) }
     ensures at_most { IfSome result (λ n. n ≤ 4097) }
 {
     let mut many = 1;
     'types: for ty in types.as_slice() {
-        match ty.count() {
+        match ty.many() {
             Some(count) => many = (many * count).min(ENOUGH),
             None => return None,
         }

@@ -4,6 +4,7 @@
 mod count;
 mod enums;
 pub mod laws;
+mod listed;
 mod rank;
 mod shown;
 mod ty;
@@ -11,6 +12,7 @@ mod value;
 
 pub use count::joint_count;
 pub use enums::{Enums, Family};
+pub use listed::{joint_at_rank, joint_values};
 pub use rank::joint_rank;
 pub use shown::show;
 pub use ty::{Ty, all_fit, all_hold, copy_types, join_all};

@@ -1,6 +1,7 @@
-ghost use Rattle.std.specs.Prelude.{◌≡◌, ◌≤◌, ◌≤ℤ◌, if◌then◌else◌};
+ghost use Rattle.std.specs.Prelude.{◌≡◌, ◌≤◌, ◌≤ℤ◌, if◌then◌else◌, is_some};
+ghost use Rattle.std.specs.Cmp.Lexicographic.{pointwise};
 ghost use Rattle.std.specs.Int.{int_gap};
-ghost use Rattle.og_types.specs.Ty.{is_between};
+ghost use Rattle.og_types.specs.Ty.{holds, is_between};
 ghost use Rattle.og_types.specs.Values.{rank_of, joint_rank_of, span, IsSmall, AreSmall};
 
 use crate::count::joint_count;
@@ -11,9 +12,18 @@ use og_list::List;
 
 impl Ty {
     /// The place of the value among the type's values, from 0, or `None` where it isn't of the type.
+    #[tactic(auto, using(crate::proofs::RankLaws::rank_is_there))]
+    pub fn rank(&self, v: &Value) -> Option<u32>
+        requires small { IsSmall self.now }
+        ensures rank { result ≡ rank_of self.now v.now }
+        ensures there { is_some result ≡ holds self.now v.now }
+    {
+        self.place(v)
+    }
+
     #[cycle(ranking)]
     #[tactic(auto, using(crate::proofs::Ranks::rank_at))]
-    pub fn rank(&self, v: &Value) -> Option<u32>
+    fn place(&self, v: &Value) -> Option<u32>
         requires small { IsSmall self.now }
         ensures { result ≡ rank_of self.now v.now }
     {
@@ -37,7 +47,7 @@ impl Ty {
                 _ => None,
             },
             Ty::Tuple(types) => match v {
-                Value::Tuple(values) => joint_rank(types, values),
+                Value::Tuple(values) => joint_place(types, values),
                 _ => None,
             },
             Ty::Number => None,
@@ -68,8 +78,17 @@ fn gap(low: i64, high: i64) -> u64
 
 /// The place of the list of values among those of one value of each type, the first type's slowest,
 /// or `None` where a value isn't of its type or the lengths differ.
-#[cycle(ranking)]
+#[tactic(auto, using(crate::proofs::RankLaws::joint_rank_is_there))]
 pub fn joint_rank(types: &List<Ty>, values: &List<Value>) -> Option<u32>
+    requires small { AreSmall types.now }
+    ensures rank { result ≡ joint_rank_of types.now values.now }
+    ensures there { is_some result ≡ pointwise holds types.now values.now }
+{
+    joint_place(types, values)
+}
+
+#[cycle(ranking)]
+fn joint_place(types: &List<Ty>, values: &List<Value>) -> Option<u32>
     requires small { AreSmall types.now }
     ensures { result ≡ joint_rank_of types.now values.now }
 {
@@ -90,7 +109,7 @@ pub fn joint_rank(types: &List<Ty>, values: &List<Value>) -> Option<u32>
             None => return None,
         }
         match values.get(at) {
-            Some(value) => match ty.rank(value) {
+            Some(value) => match ty.place(value) {
                 Some(place) => rank += place * weight,
                 None => return None,
             },

@@ -4,8 +4,8 @@ use Rattle.og_types.specs.Ty.{is_finite}
 use Rattle.og_types.specs.Values.{joint_values_of, counted}
 use Rattle.og_types.proofs.+counting.Given as goal
 
-abbrev pub invariant-count::joint_count-types : goal.invariant-count::joint_count-types
-invariant-count::joint_count-types l = record {
+abbrev pub invariant-count::joint_many-types : goal.invariant-count::joint_many-types
+invariant-count::joint_many-types l = record {
   rest : counted (list_all is_finite (drop l.ty-index l.types)) (l.many * length (joint_values_of (drop l.ty-index l.types))) ≡ counted (list_all is_finite l.types) (length (joint_values_of l.types));
   at_most : l.many ≤ 4097;
 }

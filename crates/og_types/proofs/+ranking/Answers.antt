@@ -7,72 +7,72 @@ use Rattle.og_types.specs.declared.ty.Ty.TheViews.{the_lemmas}
 use Rattle.og_types.proofs.Joint.{Part, part_at, joint_rank_short, joint_rank_goes, joint_rank_stops, row_at, small_range, small_tuple}
 use Rattle.og_types.proofs.Ranks.{rank_enum_there, rank_enum_other, rank_enum_past, rank_range, rank_tuple}
 use Rattle.og_types.proofs.+ranking.Goals as goal
-use Rattle.og_types.proofs.+ranking.Goals.{ty::Ty::rank-else-family-other-via-then-family-other+else-index-cases, ty::Ty::rank-else-family-other-via-else-family-other}
+use Rattle.og_types.proofs.+ranking.Goals.{ty::Ty::place-else-family-other-via-then-family-other+else-index-cases, ty::Ty::place-else-family-other-via-else-family-other}
 
-pub rank::joint_rank-returns-then-len : goal.rank::joint_rank-returns-then-len
-rank::joint_rank-returns-then-len t c = joint_rank_short c.args.types.now c.args.values.now (λ e. c.if-len.true (c.len.ensures ∙ e ∙ sym c.len-2.ensures))
+pub rank::joint_place-returns-then-len : goal.rank::joint_place-returns-then-len
+rank::joint_place-returns-then-len t c = joint_rank_short c.args.types.now c.args.values.now (λ e. c.if-len.true (c.len.ensures ∙ e ∙ sym c.len-2.ensures))
 
-pub rank::joint_rank-rank-requires : goal.rank::joint_rank-rank-requires
-rank::joint_rank-rank-requires t c =
+pub rank::joint_place-place-requires : goal.rank::joint_place-place-requires
+rank::joint_place-place-requires t c =
     let inside = c.types.invariant in
     let part = part_at c.args.types.now c.types.at c.ty-item.result c.types.weight c.in-Some-count.count (omega (arith, ap length c.as_slice-ty-items.ensures)) (cc) inside.finite inside.weighs inside.some (omega (arith, inside.room)) (sym c.in-Some-count.ensures.many) in
     (search (rules, the_lemmas), part.small)
 
-pub rank::joint_rank-overflow_mul-rank : goal.rank::joint_rank-overflow_mul-rank
-rank::joint_rank-overflow_mul-rank t c =
+pub rank::joint_place-overflow_mul-rank : goal.rank::joint_place-overflow_mul-rank
+rank::joint_place-overflow_mul-rank t c =
     let inside = c.types.invariant in
     let part = part_at c.args.types.now c.types.at c.ty-item.result c.types.weight c.in-Some-count.count (omega (arith, ap length c.as_slice-ty-items.ensures)) (cc) inside.finite inside.weighs inside.some (omega (arith, inside.room)) (sym c.in-Some-count.ensures.many) in
-    let row = row_at c.ty-item.result c.in-Some-get.value.now c.in-Some-rank.place (c.types.weight / c.in-Some-count.count) c.in-Some-count.count c.types.weight part.count_is part.whole c.in-Some-rank.ensures in
+    let row = row_at c.ty-item.result c.in-Some-get.value.now c.in-Some-place.place (c.types.weight / c.in-Some-count.count) c.in-Some-count.count c.types.weight part.count_is part.whole c.in-Some-place.ensures in
     omega (arith, row, inside.room)
 
-pub rank::joint_rank-overflow_add-rank : goal.rank::joint_rank-overflow_add-rank
-rank::joint_rank-overflow_add-rank t c =
+pub rank::joint_place-overflow_add-rank : goal.rank::joint_place-overflow_add-rank
+rank::joint_place-overflow_add-rank t c =
     let inside = c.types.invariant in
     let part = part_at c.args.types.now c.types.at c.ty-item.result c.types.weight c.in-Some-count.count (omega (arith, ap length c.as_slice-ty-items.ensures)) (cc) inside.finite inside.weighs inside.some (omega (arith, inside.room)) (sym c.in-Some-count.ensures.many) in
-    let row = row_at c.ty-item.result c.in-Some-get.value.now c.in-Some-rank.place (c.types.weight / c.in-Some-count.count) c.in-Some-count.count c.types.weight part.count_is part.whole c.in-Some-rank.ensures in
+    let row = row_at c.ty-item.result c.in-Some-get.value.now c.in-Some-place.place (c.types.weight / c.in-Some-count.count) c.in-Some-count.count c.types.weight part.count_is part.whole c.in-Some-place.ensures in
     omega (arith, row, inside.room)
 
-pub rank::joint_rank-types-preserved : goal.rank::joint_rank-types-preserved
-rank::joint_rank-types-preserved t c =
+pub rank::joint_place-types-preserved : goal.rank::joint_place-types-preserved
+rank::joint_place-types-preserved t c =
     let inside = c.types.invariant in
     let part = part_at c.args.types.now c.types.at c.ty-item.result c.types.weight c.in-Some-count.count (omega (arith, ap length c.as_slice-ty-items.ensures)) (cc) inside.finite inside.weighs inside.some (omega (arith, inside.room)) (sym c.in-Some-count.ensures.many) in
-    let row = row_at c.ty-item.result c.in-Some-get.value.now c.in-Some-rank.place (c.types.weight / c.in-Some-count.count) c.in-Some-count.count c.types.weight part.count_is part.whole c.in-Some-rank.ensures in
+    let row = row_at c.ty-item.result c.in-Some-get.value.now c.in-Some-place.place (c.types.weight / c.in-Some-count.count) c.in-Some-count.count c.types.weight part.count_is part.whole c.in-Some-place.ensures in
     record {
-      rest = joint_rank_goes c.args.types.now c.args.values.now c.types.at c.ty-item.result c.in-Some-get.value.now c.types.rank _ c.in-Some-rank.place (c.types.weight / c.in-Some-count.count) (omega (arith, ap length c.as_slice-ty-items.ensures)) (cc) (sym c.in-Some-get.ensures.value) c.in-Some-rank.ensures part.weighs refl ∙ inside.rest;
+      rest = joint_rank_goes c.args.types.now c.args.values.now c.types.at c.ty-item.result c.in-Some-get.value.now c.types.rank _ c.in-Some-place.place (c.types.weight / c.in-Some-count.count) (omega (arith, ap length c.as_slice-ty-items.ensures)) (cc) (sym c.in-Some-get.ensures.value) c.in-Some-place.ensures part.weighs refl ∙ inside.rest;
       weighs = part.weighs;
       some = part.some_after;
       room = omega (arith, row, inside.room);
       finite = part.finite_after;
     }
 
-pub rank::joint_rank-returns-in-None-rank : goal.rank::joint_rank-returns-in-None-rank
-rank::joint_rank-returns-in-None-rank t c =
-    joint_rank_stops c.args.types.now c.args.values.now c.types.at c.ty-item.result c.in-Some-get.value.now c.types.rank (omega (arith, ap length c.as_slice-ty-items.ensures)) (cc) (sym c.in-Some-get.ensures.value) c.in-None-rank.ensures ∙ c.types.invariant.rest
+pub rank::joint_place-returns-in-None-place : goal.rank::joint_place-returns-in-None-place
+rank::joint_place-returns-in-None-place t c =
+    joint_rank_stops c.args.types.now c.args.values.now c.types.at c.ty-item.result c.in-Some-get.value.now c.types.rank (omega (arith, ap length c.as_slice-ty-items.ensures)) (cc) (sym c.in-Some-get.ensures.value) c.in-None-place.ensures ∙ c.types.invariant.rest
 
-pub ty::Ty::rank-place_between-requires : goal.ty::Ty::rank-place_between-requires
-ty::Ty::rank-place_between-requires t c =
+pub ty::Ty::place-place_between-requires : goal.ty::Ty::place-place_between-requires
+ty::Ty::place-place_between-requires t c =
     let few : span c.in-Range.low c.in-Range.high ≤ 4096 = small_range c.in-Range.low c.in-Range.high (subst IsSmall c.in-Range.is c.requires.small) in
     record { few = grind (arith, to_z-of_z, few) }
 
-pub ty::Ty::rank-joint_rank-requires : goal.ty::Ty::rank-joint_rank-requires
-ty::Ty::rank-joint_rank-requires t c = (search (rules, the_lemmas), small_tuple c.in-Tuple.types (subst IsSmall c.in-Tuple.is c.requires.small))
+pub ty::Ty::place-joint_place-requires : goal.ty::Ty::place-joint_place-requires
+ty::Ty::place-joint_place-requires t c = (search (rules, the_lemmas), small_tuple c.in-Tuple.types (subst IsSmall c.in-Tuple.is c.requires.small))
 
-pub ty::Ty::rank-returns-then-index-cases : goal.ty::Ty::rank-returns-then-index-cases
-ty::Ty::rank-returns-then-index-cases t c =
+pub ty::Ty::place-returns-then-index-cases : goal.ty::Ty::place-returns-then-index-cases
+ty::Ty::place-returns-then-index-cases t c =
     rank_enum_there c.args.self.now c.args.v.now c.in-Enum.family c.in-Enum.cases c.in-Case.other c.in-Case.index c.in-Enum.is c.in-Case.is c.if-family-other.true c.if-index-cases.true
 
-pub ty::Ty::rank-returns-else-family-other : goal.ty::Ty::rank-returns-else-family-other
-ty::Ty::rank-returns-else-family-other t c =
+pub ty::Ty::place-returns-else-family-other : goal.ty::Ty::place-returns-else-family-other
+ty::Ty::place-returns-else-family-other t c =
     elim c.else-family-other.branch [
-      | ty::Ty::rank-else-family-other-via-then-family-other+else-index-cases w ↦
+      | ty::Ty::place-else-family-other-via-then-family-other+else-index-cases w ↦
           rank_enum_past c.args.self.now c.args.v.now c.in-Enum.family c.in-Enum.cases c.in-Case.other c.in-Case.index c.in-Enum.is c.in-Case.is w.if-family-other.true w.if-index-cases.false
-      | ty::Ty::rank-else-family-other-via-else-family-other w ↦
+      | ty::Ty::place-else-family-other-via-else-family-other w ↦
           rank_enum_other c.args.self.now c.args.v.now c.in-Enum.family c.in-Enum.cases c.in-Case.other c.in-Case.index c.in-Enum.is c.in-Case.is w.if-family-other.false
     ]
 
-pub ty::Ty::rank-returns-in-Number-v : goal.ty::Ty::rank-returns-in-Number-v
-ty::Ty::rank-returns-in-Number-v t c =
+pub ty::Ty::place-returns-in-Number-v : goal.ty::Ty::place-returns-in-Number-v
+ty::Ty::place-returns-in-Number-v t c =
     (let low : FitsSigned w64 c.in-Range.low = search rules in let high : FitsSigned w64 c.in-Range.high = search rules in simp to_z-of_z at c.place_between.ensures) ∙ rank_range c.args.self.now c.args.v.now c.in-Range.low c.in-Range.high c.in-Number-v.number c.in-Range.is c.in-Number-v.is
 
-pub ty::Ty::rank-returns-in-Tuple-v : goal.ty::Ty::rank-returns-in-Tuple-v
-ty::Ty::rank-returns-in-Tuple-v t c = c.joint_rank.ensures ∙ rank_tuple c.args.self.now c.args.v.now c.in-Tuple.types c.in-Tuple-v.values c.in-Tuple.is c.in-Tuple-v.is
+pub ty::Ty::place-returns-in-Tuple-v : goal.ty::Ty::place-returns-in-Tuple-v
+ty::Ty::place-returns-in-Tuple-v t c = c.joint_place.ensures ∙ rank_tuple c.args.self.now c.args.v.now c.in-Tuple.types c.in-Tuple-v.values c.in-Tuple.is c.in-Tuple-v.is

@@ -1,14 +1,11 @@
-use Rattle.std.proofs.Common.{◌≡◌, List, ℕ, [], ◌∷◌, ◌++◌, ◌∙◌, append_assoc}
+use Rattle.std.proofs.Common.{◌≡◌, [], ◌∷◌, ◌++◌, ◌∙◌, append_assoc}
 use Rattle.std.specs.Prelude.{codes, decimal}
 use Rattle.og_small.specs.Report.{counted}
 use Rattle.og_small.proofs.report.push_count.Goals as goal
-
-joined : (out a b c : List ℕ) → ((out ++ a) ++ b) ++ c ≡ out ++ ((a ++ b) ++ c)
-joined out a b c = simp append_assoc
 
 pub returns : goal.returns
 unfolding counted
 returns c =
     let pieces : c.extend_from_slice-2.new.self ≡ ((c.args.out.now ++ codes "deviations ") ++ decimal c.args.count) ++ 10 ∷ [] =
     cc (c.in_ok-extend_from_slice-2.ensures.ok, c.in_ok-push_number.ensures, c.in_ok-extend_from_slice.ensures.ok) in
-    pieces ∙ joined c.args.out.now (codes "deviations ") (decimal c.args.count) (10 ∷ [])
+    pieces ∙ (simp append_assoc)

@@ -11,7 +11,7 @@ pub lines-preserved : goal.lines-preserved
 lines-preserved c = elim c.if-not-has_agent.branch [
   | then-not-has_agent+in_ok-push_value w ↦
       let new : has_agent (take c.lines.i c.as_slice-lines.result.now) c.index-lines-i.result.agent ≡ false =
-      cc (c.has_agent.ensures, w.if-not-has_agent.true, w.if-not-has_agent.ensures, c.as_slice.ensures) in
+      cc (c.has_agent.ensures, w.if-not-has_agent.true, c.as_slice.ensures) in
       let out : c.if-not-has_agent.out ≡ (c.args.out.now ++ flat_map (value_line c.args.game.now c.args.choices.now) (agents (take c.lines.i c.as_slice-lines.result.now)))
       ++ value_line c.args.game.now c.args.choices.now c.index-lines-i.result.agent =
       cc (w.out-is, w.in_ok-push_value.ensures, c.lines.invariant, w.as_slice-then-not-has_agent.ensures) in
