@@ -8,3 +8,5 @@ pub mod Ranks
 pub mod Joint
 pub mod PlaceItems
 pub mod RankLaws
+pub mod FitsLaws
+pub mod JoinLaws

@@ -4,3 +4,4 @@ pub mod Ty
 pub mod TyEquality
 pub mod Values
 pub mod Names
+pub mod ValueOrder

@@ -1,15 +1,19 @@
 //! Laws of types and values, for the crates that compute with them. No call here does anything: its
 //! clauses are the laws.
-ghost use Rattle.std.specs.Prelude.{◌≡◌, ◌≢◌, ◌↔◌, ℕ, ◌+◌, ◌*◌, List, ◌∷◌, length, slice_get, Contains, AllPairs, true, Some, is_some};
+ghost use Rattle.std.specs.Prelude.{◌≡◌, ◌≢◌, ◌↔◌, ℕ, ◌+◌, ◌*◌, List, ◌∷◌, length, slice_get, Contains, AllPairs, IsTrue, true, Some, is_some, IsSomeAnd};
 ghost use Rattle.std.specs.List.{list_all};
-ghost use Rattle.std.specs.Ordering.{nat_cmp, ordering_then};
+ghost use Rattle.std.specs.Ordering.{nat_cmp, ordering_then, ordering_reverse};
 ghost use Rattle.std.specs.Cmp.Lexicographic.{pointwise};
+ghost use Rattle.std.specs.declared.cmp.Ordering.TheVariants.{Less, Equal};
+ghost use Rattle.og_frac.specs.Fraction as fraction;
+ghost use Rattle.og_frac.specs.Fraction.{Fraction, IsInLowestTerms};
 ghost use Rattle.og_types.specs.declared.value.Value.{Value};
 ghost use Rattle.og_types.specs.declared.value.Value.TheVariants as value;
 ghost use Rattle.og_types.specs.declared.ty.Ty.{Ty};
 ghost use Rattle.og_types.specs.declared.ty.Ty.TheVariants as ty;
-ghost use Rattle.og_types.specs.Value.{order};
-ghost use Rattle.og_types.specs.Ty.{holds, is_finite};
+ghost use Rattle.og_types.specs.Value.{same, order};
+ghost use Rattle.og_types.specs.Ty.{fits, join, holds, is_finite};
+ghost use Rattle.og_types.specs.Ty as types;
 ghost use Rattle.og_types.specs.Values.{values_of, joint_values_of, rank_of, joint_rank_of};
 
 /// The list of a finite type has each of its values and no other, and none twice.
@@ -36,4 +40,39 @@ pub fn joint_ranking()
     ensures parts { (t : Ty) (ts : List Ty) (v : Value) (vs : List Value) (i j : ℕ) → rank_of t v ≡ Some i → joint_rank_of ts vs ≡ Some j → joint_rank_of (t ∷ ts) (v ∷ vs) ≡ Some (i * length (joint_values_of ts) + j) }
     ensures first_slowest { (t : Ty) (ts : List Ty) (v w : Value) (vs ws : List Value) (i j k l m n : ℕ) → rank_of t v ≡ Some i → rank_of t w ≡ Some j → joint_rank_of ts vs ≡ Some k → joint_rank_of ts ws ≡ Some l → joint_rank_of (t ∷ ts) (v ∷ vs) ≡ Some m → joint_rank_of (t ∷ ts) (w ∷ ws) ≡ Some n → nat_cmp m n ≡ ordering_then (nat_cmp i j) (nat_cmp k l) }
     ensures tuples { (ts : List Ty) (vs : List Value) → rank_of (ty.Tuple ts) (value.Tuple vs) ≡ joint_rank_of ts vs }
+{}
+
+/// Each type fits itself, what fits goes along, and so do the values.
+pub fn fitting()
+    ensures itself { (t : Ty) → fits t t ≡ true }
+    ensures along { (t u w : Ty) → fits t u ≡ true → fits u w ≡ true → fits t w ≡ true }
+    ensures values_too { (t u : Ty) (v : Value) → fits t u ≡ true → holds t v ≡ true → holds u v ≡ true }
+{}
+
+/// The join is the least type that both types fit, and there is none exactly where they fit no type
+/// in common.
+pub fn joining()
+    ensures fits_both { (t u w : Ty) → join t u ≡ Some w → (fits t w ≡ true) × (fits u w ≡ true) }
+    ensures least { (t u w : Ty) → fits t w ≡ true → fits u w ≡ true → IsSomeAnd (join t u) (λ least. fits least w ≡ true) }
+    ensures none { (t u : Ty) → (join t u ≡ None) ↔ ((w : Ty) → fits t w ≡ true → fits u w ≡ true → ⊥) }
+    ensures of_equals { (t : Ty) → join t t ≡ Some t }
+    ensures either_way { (t u : Ty) → join t u ≡ join u t }
+{}
+
+/// The order of values is total, it finds two values equal exactly where they are, and numbers in
+/// lowest terms stand as fractions do.
+pub fn ordering()
+    ensures reversed { (v w : Value) → order v w ≡ ordering_reverse (order w v) }
+    ensures equal { (v w : Value) → (order v w ≡ Equal) ↔ (v ≡ w) }
+    ensures along { (u v w : Value) → order u v ≡ Less → order v w ≡ Less → order u w ≡ Less }
+    ensures numbers { (p q : Fraction) → IsInLowestTerms p → IsInLowestTerms q → order (Value.Number p) (Value.Number q) ≡ fraction.order p q }
+{}
+
+/// Values that are found to be the same are equal, and so are types, lists of values and lists of
+/// types.
+pub fn equality()
+    ensures values { (v w : Value) → IsTrue (same v w) ↔ (v ≡ w) }
+    ensures types { (t u : Ty) → IsTrue (types.same t u) ↔ (t ≡ u) }
+    ensures lists { (vs ws : List Value) → (pointwise same vs ws ≡ true) ↔ (vs ≡ ws) }
+    ensures lists_of_types { (ts us : List Ty) → (pointwise types.same ts us ≡ true) ↔ (ts ≡ us) }
 {}

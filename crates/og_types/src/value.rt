@@ -169,3 +169,43 @@ impl Eq for Value {
 
     ghost laws = { decided same same_decides };
 }
+
+/// The order that `order` answers: `cmp` answers equal exactly at equal values.
+impl Ord for Value {
+    ghost use Rattle.std.proofs.Common.{refl};
+    ghost use Rattle.og_types.specs.Value.{order};
+    ghost use Rattle.og_types.specs.ValueOrder.{order_total, order_equal};
+
+    ghost cmp = { order };
+
+    ghost total = { order_total };
+
+    ghost matches_partial_cmp = { λ v w. refl };
+
+    ghost matches_eq = { order_equal };
+
+    fn cmp(&self, other: &Value) -> Ordering
+        ensures { result ≡ order self.now other.now }
+    {
+        self.order(other)
+    }
+}
+
+/// As `Ord`.
+impl PartialOrd for Value {
+    ghost use Rattle.std.proofs.Common.{refl};
+    ghost use Rattle.std.specs.Cmp.{partial_order_from_agreeing_total};
+    ghost use Rattle.std.specs.Ordering.{as_partial_cmp};
+    ghost use Rattle.og_types.specs.Value.{order};
+    ghost use Rattle.og_types.specs.ValueOrder.{order_total, order_equal};
+
+    ghost partial_cmp = { as_partial_cmp order };
+
+    ghost laws = { partial_order_from_agreeing_total order order_total (λ v w. refl) order_equal };
+
+    fn partial_cmp(&self, other: &Value) -> Option<Ordering>
+        ensures { result ≡ as_partial_cmp order self.now other.now }
+    {
+        Some(self.cmp(other))
+    }
+}
