@@ -1,6 +1,6 @@
 -- How the values of types are counted.
-use Rattle.std.proofs.Common.{◌≡◌, ℕ, zero, suc, ℤ, pos, ◌+◌, ◌*◌, ◌<◌, ◌≤◌, min, Bool, true, false, ◌&&◌, List, [], ◌∷◌, length, get_or, drop, map, ap, sym, ◌∙◌, refl, inl, inr, arith}
-use Rattle.std.specs.Prelude.{Some, None, Option}
+use Rattle.std.proofs.Common.{◌≡◌, ℕ, zero, suc, ℤ, pos, ◌+◌, ◌*◌, ◌<◌, ◌≤◌, min, Bool, true, false, ◌&&◌, List, ◌∷◌, length, get_or, drop, ap, sym, ◌∙◌, refl, inl, inr, arith}
+use Rattle.std.specs.Prelude.{Some}
 use Rattle.std.specs.List.{list_all}
 use Rattle.std.specs.Prelude.{◌+ℤ◌}
 use Rattle.og_frac.specs.Fraction.{whole}

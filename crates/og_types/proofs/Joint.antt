@@ -1,9 +1,8 @@
 -- The ranks of lists of values, from place to place.
-use Rattle.std.proofs.Common.{◌≡◌, ◌≢◌, ℕ, ℤ, pos, zero, suc, if◌then◌else◌, ◌+◌, ◌*◌, ◌/◌, ◌<◌, ◌≤◌, min, Bool, true, false, ◌&&◌, List, [], ◌∷◌, ◌++◌, length, get_or, drop, map, ap, sym, subst, ◌∙◌, refl, arith}
+use Rattle.std.proofs.Common.{◌≡◌, ◌≢◌, ℕ, ℤ, pos, zero, suc, if◌then◌else◌, ◌+◌, ◌*◌, ◌/◌, ◌<◌, ◌≤◌, min, Bool, true, false, List, [], ◌∷◌, length, get_or, drop, ap, sym, ◌∙◌, refl, arith}
 use Rattle.std.specs.Prelude.{Some, None, Option, slice_get, ◌+ℤ◌}
 use Rattle.std.specs.Option.{option_map}
 use Rattle.std.specs.List.{list_all}
-use Rattle.std.specs.Cmp.Lexicographic.{pointwise}
 use Rattle.og_types.specs.declared.value.Value.{Value}
 use Rattle.og_types.specs.declared.value.Value.TheVariants as value
 use Rattle.og_types.specs.declared.ty.Ty.{Ty}
@@ -13,7 +12,7 @@ use Rattle.og_types.specs.Value.{same}
 use Rattle.og_types.specs.ValueEquality.{and_true}
 use Rattle.og_types.specs.Values.{values_of, joint_values_of, counted, IsSmall, AreSmall, rank_of, joint_rank_of, place_of, span}
 use Rattle.og_types.proofs.Lists.{drop_at, drop_got}
-use Rattle.og_types.proofs.Products.{product, length_product, place_product, together, place_shorter}
+use Rattle.og_types.proofs.Products.{length_product, place_product, together, place_shorter}
 use Rattle.og_types.proofs.TyLevels.{values_range, values_tuple, is_finite_tuple, bounds_fit_tuple}
 use Rattle.std.proofs.Math.Nat.{mul-div_cancel_left, mul-suc, suc-mul, zero-mul}
 use Rattle.std.proofs.lemmas.Nat.{row_fits}

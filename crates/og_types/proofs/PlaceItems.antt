@@ -1,5 +1,5 @@
 -- Which value stands at a place.
-use Rattle.std.proofs.Common.{◌≡◌, ℕ, ℤ, pos, zero, suc, ◌+◌, ◌*◌, ◌/◌, ◌%◌, ◌<◌, ◌≤◌, Bool, true, false, List, [], ◌∷◌, ◌++◌, length, get_or, drop, take, map, ap, sym, subst, ◌∙◌, refl, inl, inr, append_assoc, arith}
+use Rattle.std.proofs.Common.{◌≡◌, ℕ, ℤ, pos, zero, suc, ◌+◌, ◌*◌, ◌/◌, ◌%◌, ◌<◌, ◌≤◌, true, false, List, [], ◌∷◌, ◌++◌, length, get_or, drop, take, map, ap, sym, ◌∙◌, refl, inl, inr, append_assoc, arith}
 use Rattle.std.specs.Prelude.{Some, None, Option, Result, Ok, Err, IsSome, is_some, IfOk, ◌↔◌, slice_get, ◌+ℤ◌, ◌≤ℤ◌}
 use Rattle.std.specs.Option.{option_map}
 use Rattle.std.specs.List.{range_with_len}

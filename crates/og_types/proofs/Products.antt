@@ -1,5 +1,5 @@
 -- The tuples of several lists: how many there are, which stands where, and where one stands.
-use Rattle.std.proofs.Common.{◌≡◌, ℕ, zero, suc, ◌+◌, ◌-◌, ◌*◌, ◌<◌, ◌≤◌, Bool, true, false, ◌&&◌, if◌then◌else◌, List, [], ◌∷◌, ◌++◌, length, map, ap, sym, ◌∙◌, refl, inl, inr, subst, arith, length-append, add-one}
+use Rattle.std.proofs.Common.{◌≡◌, ℕ, zero, suc, ◌+◌, ◌-◌, ◌*◌, ◌<◌, Bool, true, false, ◌&&◌, if◌then◌else◌, List, [], ◌∷◌, ◌++◌, length, map, ap, sym, ◌∙◌, refl, inl, inr, arith, length-append}
 use Rattle.std.specs.Prelude.{slice_get, Some, None, Option}
 use Rattle.std.specs.Option.{option_map}
 use Rattle.std.specs.List.{flat_map}
@@ -8,7 +8,7 @@ use Rattle.std.proofs.lemmas.List.{length-map}
 use Rattle.std.proofs.lemmas.Option.{slice_get-map, slice_get_within, slice_get_cases}
 use Rattle.og_types.specs.declared.value.Value.{Value}
 use Rattle.og_types.specs.Value.{same}
-use Rattle.og_types.specs.Values.{tuples, place_of}
+use Rattle.og_types.specs.Values.{place_of}
 
 -- each of the firsts in front of each of the tails
 abbrev pub product : List Value → List (List Value) → List (List Value)

@@ -1,5 +1,5 @@
 -- A rank is a place in the list.
-use Rattle.std.proofs.Common.{◌≡◌, ◌≢◌, ℕ, ℤ, pos, zero, suc, ◌+◌, ◌*◌, ◌<◌, ◌≤◌, Bool, true, false, ◌&&◌, ◌==◌, if◌then◌else◌, nat_lt, List, [], ◌∷◌, length, get_or, map, ap, sym, subst, ◌∙◌, refl, arith}
+use Rattle.std.proofs.Common.{◌≡◌, ◌≢◌, ℕ, ℤ, pos, zero, suc, ◌+◌, ◌*◌, ◌<◌, Bool, true, false, ◌&&◌, ◌==◌, if◌then◌else◌, nat_lt, List, [], ◌∷◌, length, get_or, map, ap, sym, subst, ◌∙◌, refl, arith}
 use Rattle.std.specs.Prelude.{Some, None, Option, slice_get, is_some, Contains, AllPairs, ◌↔◌, ◌+ℤ◌, ◌*ℤ◌, int_le}
 use Rattle.std.specs.Option.{option_map}
 use Rattle.std.specs.Int.{int_gap}
@@ -27,16 +27,16 @@ use Rattle.og_types.specs.declared.value.Value.TheVariants as value
 use Rattle.og_types.specs.declared.ty.Ty.{Ty}
 use Rattle.og_types.specs.declared.ty.Ty.TheOpen.{Ty-F}
 use Rattle.og_types.specs.declared.ty.Ty.TheOpen as one
-use Rattle.og_types.specs.declared.ty.Ty.TheViews.{out-Ty, roll-Ty, out-roll-Ty}
+use Rattle.og_types.specs.declared.ty.Ty.TheViews.{roll-Ty, out-roll-Ty}
 use Rattle.og_types.specs.declared.ty.Ty.TheFolds.{fold-roll-Ty, map-Ty, ind-Ty}
 use Rattle.og_types.specs.declared.ty.Ty.TheVariants as ty
 use Rattle.og_types.specs.Ty.{holds, holds_step, is_finite, is_finite_step, is_between}
 use Rattle.og_types.specs.Value.{same, order, order_step}
 use Rattle.og_types.proofs.ValueLevels.{order_tuples}
 use Rattle.og_types.specs.ValueEquality.{same_equal, same_decides, and_true}
-use Rattle.og_types.specs.Values.{values_of, joint_values_of, tuples, rank_of, joint_rank_of, place_of, span, IsSmall, AreSmall}
+use Rattle.og_types.specs.Values.{values_of, joint_values_of, rank_of, joint_rank_of, place_of, span, IsSmall, AreSmall}
 use Rattle.og_types.proofs.TyLevels.{type_induction, values_enum, values_bool, values_range, values_tuple, values_number}
-use Rattle.og_types.proofs.Products.{StandsAt, product_from, product_at, place_product, place_shorter, mapped_from, together}
+use Rattle.og_types.proofs.Products.{product_from, place_product, place_shorter, mapped_from, together}
 use Rattle.og_types.proofs.PlaceItems.{counted_at}
 use Rattle.og_types.proofs.Ranks.{rank_at, rank_by, rank_enum_there, rank_bool, rank_range, rank_tuple}
 use Rattle.og_types.proofs.Gaps.{true_le, within_span, gap_of}

@@ -1,5 +1,5 @@
 -- Where a value stands among those of its type, by the forms of both.
-use Rattle.std.proofs.Common.{◌≡◌, ℕ, ℤ, pos, zero, suc, ◌+◌, ◌<◌, ◌≤◌, Bool, true, false, ◌&&◌, ◌==◌, if◌then◌else◌, nat_lt, List, [], ◌∷◌, length, map, ap, sym, subst, ◌∙◌, refl, arith, eq-eqb}
+use Rattle.std.proofs.Common.{◌≡◌, ℕ, ℤ, pos, zero, suc, ◌+◌, ◌<◌, ◌≤◌, Bool, true, false, ◌&&◌, ◌==◌, if◌then◌else◌, nat_lt, List, [], ◌∷◌, map, ap, sym, ◌∙◌, refl, arith, eq-eqb}
 use Rattle.std.specs.Prelude.{Some, None, Option, ◌+ℤ◌, int_le}
 use Rattle.std.specs.Option.{option_map}
 use Rattle.std.specs.Int.{int_gap}
@@ -20,10 +20,10 @@ use Rattle.og_types.specs.declared.ty.Ty.TheVariants as ty
 use Rattle.og_types.specs.declared.ty.Ty.{Ty}
 use Rattle.og_types.specs.declared.ty.Ty.TheOpen.{Ty-F}
 use Rattle.og_types.specs.declared.ty.Ty.TheOpen as one
-use Rattle.og_types.specs.declared.ty.Ty.TheViews.{out-Ty, roll-Ty, roll-out-Ty}
+use Rattle.og_types.specs.declared.ty.Ty.TheViews.{out-Ty, roll-out-Ty}
 use Rattle.og_types.specs.declared.ty.Ty.TheFolds.{fold-roll-Ty, map-Ty}
 use Rattle.og_types.specs.Ty.{is_between}
-use Rattle.og_types.specs.Value.{same, same_step, same_flag, same_fraction}
+use Rattle.og_types.specs.Value.{same, same_step, same_flag}
 use Rattle.og_types.specs.ValueEquality.{same_at}
 use Rattle.og_types.specs.Values.{values_of, values_step, tuples, place_of, rank_of, joint_rank_of, span}
 use Rattle.og_types.proofs.ValueLevels.{same_tuples}

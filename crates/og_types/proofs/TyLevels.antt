@@ -1,5 +1,5 @@
 -- What definitions on types say at each form, and induction on types.
-use Rattle.std.proofs.Common.{◌≡◌, ℕ, ℤ, pos, Bool, true, false, List, [], ◌∷◌, map, ap, sym, subst, ◌∙◌, refl}
+use Rattle.std.proofs.Common.{◌≡◌, ℕ, ℤ, pos, Bool, true, false, List, [], ◌∷◌, map, ap, sym, subst, ◌∙◌}
 use Rattle.std.specs.Prelude.{Option, ◌+ℤ◌}
 use Rattle.og_frac.specs.Fraction.{whole}
 use Rattle.std.specs.Option.{option_map}

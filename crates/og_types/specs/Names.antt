@@ -1,5 +1,5 @@
 -- The names of enums and cases, and how a value prints.
-use Rattle.std.specs.Prelude.{ℕ, Bool, if◌then◌else◌, List, [], ◌++◌, slice_get, Option, unwrap_or, option_and_then, codes}
+use Rattle.std.specs.Prelude.{ℕ, if◌then◌else◌, List, [], ◌++◌, slice_get, Option, unwrap_or, option_and_then, codes}
 use Rattle.std.specs.Option.{option_map}
 use Rattle.std.specs.List.{join_by}
 use Rattle.og_frac.specs.Text.{text}

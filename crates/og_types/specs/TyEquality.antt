@@ -1,5 +1,5 @@
 -- Types that are found to be the same are equal.
-use Rattle.std.proofs.Common.{◌≡◌, ℕ, ℤ, Bool, true, false, ◌&&◌, ◌==◌, List, [], ◌∷◌, map, ap, sym, subst, ◌∙◌, refl, arith, eq-eqb}
+use Rattle.std.proofs.Common.{◌≡◌, Bool, true, false, ◌&&◌, ◌==◌, List, [], ◌∷◌, map, ap, sym, subst, ◌∙◌, refl, eq-eqb}
 use Rattle.std.specs.Prelude.{◌↔◌}
 use Rattle.std.specs.Ordering.{int_eq}
 use Rattle.std.specs.Cmp.Lexicographic.{pointwise}
@@ -9,8 +9,7 @@ use Rattle.og_types.specs.declared.ty.Ty.{Ty}
 use Rattle.og_types.specs.declared.ty.Ty.TheOpen.{Ty-F}
 use Rattle.og_types.specs.declared.ty.Ty.TheOpen as one
 use Rattle.og_types.specs.declared.ty.Ty.TheViews.{out-Ty, roll-Ty, roll-out-Ty, out-roll-Ty}
-use Rattle.og_types.specs.declared.ty.Ty.TheFolds.{fold-Ty, fold-roll-Ty, map-Ty, ind-Ty}
-use Rattle.og_types.specs.declared.ty.Ty.TheVariants as ty
+use Rattle.og_types.specs.declared.ty.Ty.TheFolds.{fold-roll-Ty, map-Ty, ind-Ty}
 use Rattle.og_types.specs.Ty.{same, same_step}
 
 pub same_at : (z : Ty-F Ty) (w : Ty) → same (roll-Ty z) w ≡ same_step (map-Ty Ty (Ty → Bool) same z) (out-Ty w)

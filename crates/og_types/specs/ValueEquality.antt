@@ -11,8 +11,7 @@ use Rattle.og_types.specs.declared.value.Value.{Value}
 use Rattle.og_types.specs.declared.value.Value.TheOpen.{Value-F}
 use Rattle.og_types.specs.declared.value.Value.TheOpen as one
 use Rattle.og_types.specs.declared.value.Value.TheViews.{out-Value, roll-Value, roll-out-Value, out-roll-Value}
-use Rattle.og_types.specs.declared.value.Value.TheFolds.{fold-Value, fold-roll-Value, map-Value, ind-Value}
-use Rattle.og_types.specs.declared.value.Value.TheVariants as value
+use Rattle.og_types.specs.declared.value.Value.TheFolds.{fold-roll-Value, map-Value, ind-Value}
 use Rattle.og_types.specs.Value.{same, same_step, same_flag, same_fraction}
 
 pub and_true : (a b : Bool) → a && b ≡ true → (a ≡ true) × (b ≡ true)

@@ -1,5 +1,5 @@
 -- The values of a finite type, in order, and the tuples of several types.
-use Rattle.std.specs.Prelude.{◌≡◌, ℕ, ◌+◌, ◌≤◌, Bool, true, false, if◌then◌else◌, min, ℤ, pos, ◌+ℤ◌, int_le, List, [], ◌∷◌, map, length, slice_get, Option, Some, None, IsTrue}
+use Rattle.std.specs.Prelude.{◌≡◌, ℕ, ◌+◌, ◌≤◌, Bool, true, false, if◌then◌else◌, min, ℤ, pos, ◌+ℤ◌, int_le, List, [], ◌∷◌, map, length, Option, Some, None}
 use Rattle.std.specs.Int.{int_gap}
 use Rattle.std.specs.List.{list_all, flat_map, range_with_len}
 use Rattle.std.specs.Option.{option_map}

@@ -150,13 +150,26 @@ fn lists_of_values_have_ranks(rt: HostRuntime) -> Result<(), Fail> {
     Ok(())
 }
 
+/// The first type fits the second, or it doesn't, and their join is this one.
+fn check_fit(
+    rt: &impl Abort,
+    alloc: Global,
+    first: &Ty,
+    second: &Ty,
+    fits: bool,
+    join: Option<Ty>,
+) -> Result<(), Fail> {
+    assert_eq!(rt; first.fits(second), fits, "{first:?} and {second:?}");
+    assert!(rt;
+        first.join(alloc, second)? == join,
+        "{first:?} and {second:?}"
+    );
+    Ok(())
+}
+
 #[test]
 fn types_fit_and_join(rt: HostRuntime) -> Result<(), Fail> {
     let alloc = rt.alloc();
-    let small = pair_of(alloc, Ty::Range(0, 1), Ty::Enum(0, 2))?;
-    let large = pair_of(alloc, Ty::Number, Ty::Enum(0, 2))?;
-    let other = pair_of(alloc, Ty::Number, Ty::Enum(1, 2))?;
-    // A type, another, whether the first fits the second, and their join.
     let rows = [
         (Ty::Bool, Ty::Bool, true, Some(Ty::Bool)),
         (Ty::Bool, Ty::Number, false, None),
@@ -181,29 +194,26 @@ fn types_fit_and_join(rt: HostRuntime) -> Result<(), Fail> {
         ),
         (Ty::Range(0, 1), Ty::Number, true, Some(Ty::Number)),
         (Ty::Number, Ty::Range(0, 1), false, Some(Ty::Number)),
-        (
-            small.copy(alloc)?,
-            large.copy(alloc)?,
-            true,
-            Some(large.copy(alloc)?),
-        ),
-        (
-            large,
-            small.copy(alloc)?,
-            false,
-            Some(pair_of(alloc, Ty::Number, Ty::Enum(0, 2))?),
-        ),
-        (small.copy(alloc)?, other, false, None),
-        (small, Ty::Tuple(List::new(alloc)), false, None),
+        (Ty::Number, Ty::Bool, false, None),
     ];
     for (first, second, fits, join) in rows {
-        assert_eq!(rt; first.fits(&second), fits);
-        assert!(rt;
-            first.join(alloc, &second)? == join,
-            "{first:?} and {second:?}"
-        );
+        check_fit(&rt, alloc, &first, &second, fits, join)?;
     }
     Ok(())
+}
+
+#[test]
+fn tuples_fit_and_join_by_components(rt: HostRuntime) -> Result<(), Fail> {
+    let alloc = rt.alloc();
+    let small = pair_of(alloc, Ty::Range(0, 1), Ty::Enum(0, 2))?;
+    let large = pair_of(alloc, Ty::Number, Ty::Enum(0, 2))?;
+    let other = pair_of(alloc, Ty::Number, Ty::Enum(1, 2))?;
+    let none = Ty::Tuple(List::new(alloc));
+    check_fit(&rt, alloc, &small, &large, true, Some(large.copy(alloc)?))?;
+    check_fit(&rt, alloc, &large, &small, false, Some(large.copy(alloc)?))?;
+    check_fit(&rt, alloc, &small, &other, false, None)?;
+    check_fit(&rt, alloc, &small, &none, false, None)?;
+    check_fit(&rt, alloc, &none, &none, true, Some(none.copy(alloc)?))
 }
 
 #[test]

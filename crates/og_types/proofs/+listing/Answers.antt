@@ -1,4 +1,4 @@
-use Rattle.std.proofs.Common.{◌≡◌, ◌∙◌, ◌/◌, sym, ap, subst, refl, arith, rules, length, true}
+use Rattle.std.proofs.Common.{◌≡◌, ◌∙◌, ◌/◌, sym, ap, subst, arith, rules, length, true}
 use Rattle.std.specs.Option.{option_map}
 use Rattle.og_types.specs.declared.ty.Ty.TheViews.{the_lemmas}
 use Rattle.og_types.specs.declared.ty.Ty.{Ty}
@@ -6,7 +6,7 @@ use Rattle.og_types.specs.declared.value.Value.TheVariants as value
 use Rattle.og_types.specs.Ty.{bounds_fit}
 use Rattle.std.specs.Prelude.{slice_get}
 use Rattle.og_types.specs.Values.{IsSmall, values_of}
-use Rattle.og_types.proofs.Joint.{Part, part_at, all_at, small_tuple, bounds_tuple}
+use Rattle.og_types.proofs.Joint.{part_at, all_at, small_tuple, bounds_tuple}
 use Rattle.og_types.proofs.PlaceItems.{joint_at_goes, digit_there, at_tuple}
 use Rattle.og_types.proofs.+listing.Goals as goal
 

@@ -1,4 +1,4 @@
-use Rattle.std.proofs.Common.{◌≡◌, ◌∙◌, sym, ap, arith, rules, length, map}
+use Rattle.std.proofs.Common.{◌∙◌, sym, ap, arith, rules, length}
 use Rattle.std.proofs.lemmas.List.{length-map}
 use Rattle.og_types.specs.Ty.{join}
 use Rattle.og_types.proofs.Lists.{joins_goes, joins_stops, joins_short}

@@ -1,6 +1,4 @@
-use Rattle.std.proofs.Common.{◌≡◌, ◌∙◌, sym, ap, arith, length}
-use Rattle.std.specs.Prelude.{slice_get, Some}
-use Rattle.og_types.specs.declared.value.Value.{Value}
+use Rattle.std.proofs.Common.{◌∙◌, sym, ap, arith, length}
 use Rattle.og_types.specs.Value.{same}
 use Rattle.og_types.proofs.Lists.{pointwise_goes, pointwise_stops}
 use Rattle.og_types.proofs.value.+same_values.Goals as goal

@@ -1,4 +1,4 @@
-use Rattle.std.proofs.Common.{◌≡◌, ◌∙◌, sym, ap, arith, rules, ◌++◌, ◌∷◌, []}
+use Rattle.std.proofs.Common.{◌∙◌, sym, rules}
 use Rattle.og_types.specs.Values.{values_of}
 use Rattle.og_types.proofs.PlaceItems.{take_goes}
 use Rattle.og_types.proofs.ty.Ty.values.Goals as goal
