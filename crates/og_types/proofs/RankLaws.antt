@@ -21,8 +21,7 @@ use Rattle.og_frac.specs.Orders.{order_less, order_equal, order_reversed}
 use Rattle.og_types.specs.declared.value.Value.{Value}
 use Rattle.og_types.specs.declared.value.Value.TheOpen.{Value-F}
 use Rattle.og_types.specs.declared.value.Value.TheOpen as val
-use Rattle.og_types.specs.declared.value.Value.TheViews.{out-Value, roll-Value}
-use Rattle.og_types.specs.declared.value.Value.TheFolds.{fold-roll-Value, map-Value}
+use Rattle.og_types.specs.declared.value.Value.TheViews.{out-Value}
 use Rattle.og_types.specs.declared.value.Value.TheVariants as value
 use Rattle.og_types.specs.declared.ty.Ty.{Ty}
 use Rattle.og_types.specs.declared.ty.Ty.TheOpen.{Ty-F}
@@ -32,6 +31,8 @@ use Rattle.og_types.specs.declared.ty.Ty.TheFolds.{fold-roll-Ty, map-Ty, ind-Ty}
 use Rattle.og_types.specs.declared.ty.Ty.TheVariants as ty
 use Rattle.og_types.specs.Ty.{holds, holds_step, is_finite, is_finite_step, is_between}
 use Rattle.og_types.specs.Value.{same, order, order_step}
+use Rattle.og_types.specs.ValueOrder.{order_at}
+use Rattle.og_types.proofs.FitsLaws.{holds_at}
 use Rattle.og_types.proofs.ValueLevels.{order_tuples}
 use Rattle.og_types.specs.ValueEquality.{same_equal, same_decides, and_true}
 use Rattle.og_types.specs.Values.{values_of, joint_values_of, rank_of, joint_rank_of, place_of, span, IsSmall, AreSmall}
@@ -143,9 +144,6 @@ joint_rank_at_place ts = joint_claim ts (each ts)
 
 -- ---- a rank is there exactly for the values of the type
 
-holds_at : (x : Ty-F Ty) (v : Value) → holds (roll-Ty x) v ≡ holds_step (map-Ty Ty (Value → Bool) holds x) (out-Value v)
-holds_at x v = λ i. fold-roll-Ty (Value → Bool) (λ t v. holds_step t (out-Value v)) x i v
-
 finite_at : (x : Ty-F Ty) → is_finite (roll-Ty x) ≡ is_finite_step (map-Ty Ty Bool is_finite x)
 finite_at x = fold-roll-Ty Bool is_finite_step x
 
@@ -239,9 +237,6 @@ joint_ordered (t ∷ ts) all vs ws i j p q =
     ∙ (λ k. ordering_then (all.0 one.first two.first one.first_at two.first_at one.first_is two.first_is k) (joint_ordered ts all.1 one.rest two.rest one.rest_at two.rest_at one.rest_is two.rest_is k))
     ∙ sym (together_cmp (length (joint_values_of ts)) one.first_at two.first_at one.rest_at two.rest_at (slice_get_within (joint_values_of ts) one.rest_at one.rest one.rest_is) (slice_get_within (joint_values_of ts) two.rest_at two.rest two.rest_is))
     ∙ (λ k. nat_cmp (sym one.at k) (sym two.at k))
-
-order_at : (z : Value-F Value) (w : Value) → order (roll-Value z) w ≡ order_step (map-Value Value (Value → Ordering) order z) (out-Value w)
-order_at z w = λ i. fold-roll-Value (Value → Ordering) (λ v w. order_step v (out-Value w)) z i w
 
 cases_ordered : (family i j : ℕ) → order (value.Case family i) (value.Case family j) ≡ nat_cmp i j
 cases_ordered family i j =
