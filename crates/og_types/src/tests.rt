@@ -1,3 +1,5 @@
+ghost use Rattle.std.specs.Prelude.{◌≡◌, ◌↔◌, IsTrue};
+
 use crate::*;
 use og_frac::Frac;
 use og_list::{List, Text};
@@ -24,6 +26,14 @@ fn pair_of(alloc: Global, first: Ty, second: Ty) -> Result<Ty, AllocError> {
 
 fn fraction(rt: &impl Abort, n: i64, d: u64) -> Value {
     Value::Number(Frac::new(n, d).expect(rt, "a fraction that fits"))
+}
+
+/// `==` tells whether two lists of values are equal.
+fn same(first: &List<Value>, second: &List<Value>) -> bool
+    ensures { IsTrue result ↔ (first.now ≡ second.now) }
+{
+    laws::equality();
+    first == second
 }
 
 /// One enum of two cases.
@@ -140,7 +150,8 @@ fn lists_of_values_have_ranks(rt: HostRuntime) -> Result<(), Fail> {
     let listed = joint_values(alloc, &types)?;
     assert_eq!(rt; listed.len(), 6);
     let third = joint_at_rank(alloc, &types, 3)?.ok_or("the fourth list")?;
-    assert!(rt; third == copy_values(alloc, &values)?);
+    assert!(rt; same(&third, &copy_values(alloc, &values)?));
+    assert!(rt; !same(&third, &strangers));
     assert!(rt; listed.get(3).ok_or("the fourth list")? == &values);
     assert!(rt; all_hold(&types, &values) && !all_hold(&types, &strangers));
     let copies = copy_types(alloc, &types)?;
