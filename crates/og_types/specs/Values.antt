@@ -39,7 +39,7 @@ values_of = fold-Ty (List Value) values_step
 abbrev pub joint_values_of : List Ty → List (List Value)
 joint_values_of types = tuples (map values_of types)
 
--- the most values that are counted: one more than a type may have
+-- how many there are, or 4,097 where there are more; of what isn't finite there is no count
 abbrev pub counted : Bool → ℕ → Option ℕ
 counted finite many = if finite then Some (min many 4097) else None
 

@@ -23,7 +23,6 @@ impl Ty {
     }
 
     #[cycle(listing)]
-    #[tactic(auto, using(crate::proofs::PlaceItems::at_enum, crate::proofs::PlaceItems::at_enum_past))]
     fn item(&self, alloc: Global, r: u32) -> Result<Option<Value>, AllocError>
         requires small { IsSmall self.now }
         requires bounds { bounds_fit self.now ≡ true }
