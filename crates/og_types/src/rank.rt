@@ -27,30 +27,18 @@ impl Ty {
         requires small { IsSmall self.now }
         ensures { result ≡ rank_of self.now v.now }
     {
-        match self {
-            Ty::Enum(family, cases) => match v {
-                Value::Case(other, index) => {
-                    if family == other && index < cases {
-                        Some(*index)
-                    } else {
-                        None
-                    }
+        match (self, v) {
+            (Ty::Enum(family, cases), Value::Case(of_family, index)) => {
+                if family == of_family && index < cases {
+                    Some(*index)
+                } else {
+                    None
                 }
-                _ => None,
-            },
-            Ty::Bool => match v {
-                Value::Flag(flag) => Some(u32::from(*flag)),
-                _ => None,
-            },
-            Ty::Range(low, high) => match v {
-                Value::Number(number) => place_between(*low, *high, number),
-                _ => None,
-            },
-            Ty::Tuple(types) => match v {
-                Value::Tuple(values) => joint_place(types, values),
-                _ => None,
-            },
-            Ty::Number => None,
+            }
+            (Ty::Bool, Value::Flag(flag)) => Some(u32::from(*flag)),
+            (Ty::Range(low, high), Value::Number(number)) => place_between(*low, *high, number),
+            (Ty::Tuple(types), Value::Tuple(values)) => joint_place(types, values),
+            _ => None,
         }
     }
 }

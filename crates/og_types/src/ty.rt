@@ -45,27 +45,17 @@ impl Ty {
     fn is_same(&self, other: &Ty) -> bool
         ensures { result ≡ same self.now other.now }
     {
-        match self {
-            Ty::Enum(family, cases) => match other {
-                Ty::Enum(other, count) => family == other && cases == count,
-                _ => false,
-            },
-            Ty::Bool => match other {
-                Ty::Bool => true,
-                _ => false,
-            },
-            Ty::Range(low, high) => match other {
-                Ty::Range(from, to) => low == from && high == to,
-                _ => false,
-            },
-            Ty::Tuple(parts) => match other {
-                Ty::Tuple(others) => are_same(parts, others),
-                _ => false,
-            },
-            Ty::Number => match other {
-                Ty::Number => true,
-                _ => false,
-            },
+        match (self, other) {
+            (Ty::Enum(family, cases), Ty::Enum(other_family, other_cases)) => {
+                family == other_family && cases == other_cases
+            }
+            (Ty::Bool, Ty::Bool) => true,
+            (Ty::Range(low, high), Ty::Range(other_low, other_high)) => {
+                low == other_low && high == other_high
+            }
+            (Ty::Tuple(parts), Ty::Tuple(other_parts)) => are_same(parts, other_parts),
+            (Ty::Number, Ty::Number) => true,
+            _ => false,
         }
     }
 
@@ -75,28 +65,16 @@ impl Ty {
     pub fn fits(&self, into: &Ty) -> bool
         ensures { result ≡ fits self.now into.now }
     {
-        match self {
-            Ty::Enum(family, cases) => match into {
-                Ty::Enum(other, count) => family == other && cases == count,
-                _ => false,
-            },
-            Ty::Bool => match into {
-                Ty::Bool => true,
-                _ => false,
-            },
-            Ty::Range(low, high) => match into {
-                Ty::Range(from, to) => from <= low && high <= to,
-                Ty::Number => true,
-                _ => false,
-            },
-            Ty::Tuple(parts) => match into {
-                Ty::Tuple(others) => all_fit(parts, others),
-                _ => false,
-            },
-            Ty::Number => match into {
-                Ty::Number => true,
-                _ => false,
-            },
+        match (self, into) {
+            (Ty::Enum(family, cases), Ty::Enum(other_family, other_cases)) => {
+                family == other_family && cases == other_cases
+            }
+            (Ty::Bool, Ty::Bool) => true,
+            (Ty::Range(low, high), Ty::Range(from, to)) => from <= low && high <= to,
+            (Ty::Range(_, _), Ty::Number) => true,
+            (Ty::Tuple(parts), Ty::Tuple(other_parts)) => all_fit(parts, other_parts),
+            (Ty::Number, Ty::Number) => true,
+            _ => false,
         }
     }
 
@@ -106,72 +84,46 @@ impl Ty {
     pub fn holds(&self, v: &Value) -> bool
         ensures { result ≡ holds self.now v.now }
     {
-        match self {
-            Ty::Enum(family, cases) => match v {
-                Value::Case(other, index) => family == other && index < cases,
-                _ => false,
-            },
-            Ty::Bool => match v {
-                Value::Flag(_) => true,
-                _ => false,
-            },
-            Ty::Range(low, high) => match v {
-                Value::Number(number) => is_between(*low, *high, number),
-                _ => false,
-            },
-            Ty::Tuple(parts) => match v {
-                Value::Tuple(values) => all_hold(parts, values),
-                _ => false,
-            },
-            Ty::Number => match v {
-                Value::Number(_) => true,
-                _ => false,
-            },
+        match (self, v) {
+            (Ty::Enum(family, cases), Value::Case(of_family, index)) => {
+                family == of_family && index < cases
+            }
+            (Ty::Bool, Value::Flag(_)) => true,
+            (Ty::Range(low, high), Value::Number(number)) => is_between(*low, *high, number),
+            (Ty::Tuple(parts), Value::Tuple(values)) => all_hold(parts, values),
+            (Ty::Number, Value::Number(_)) => true,
+            _ => false,
         }
     }
-}
 
-impl Ty {
     /// The type of what may be of either type, where there is one: the least type that both fit.
     #[cycle(joining)]
     #[tactic(auto, using(crate::proofs::TyLevels::join_tuples))]
     pub fn join(&self, alloc: Global, with: &Ty) -> Result<Option<Ty>, AllocError>
         ensures { IfOk result (λ found. found ≡ join self.now with.now) }
     {
-        match self {
-            Ty::Enum(family, cases) => match with {
-                Ty::Enum(other, count) => {
-                    if family == other && cases == count {
-                        Ok(Some(Ty::Enum(*family, *cases)))
-                    } else {
-                        Ok(None)
-                    }
+        match (self, with) {
+            (Ty::Enum(family, cases), Ty::Enum(other_family, other_cases)) => {
+                if family == other_family && cases == other_cases {
+                    Ok(Some(Ty::Enum(*family, *cases)))
+                } else {
+                    Ok(None)
                 }
-                _ => Ok(None),
-            },
-            Ty::Bool => match with {
-                Ty::Bool => Ok(Some(Ty::Bool)),
-                _ => Ok(None),
-            },
-            Ty::Range(low, high) => match with {
-                Ty::Range(from, to) => Ok(Some(Ty::Range((*low).min(*from), (*high).max(*to)))),
-                Ty::Number => Ok(Some(Ty::Number)),
-                _ => Ok(None),
-            },
-            Ty::Tuple(parts) => match with {
-                Ty::Tuple(others) => Ok(tuple_of(join_all(alloc, parts, others)?)),
-                _ => Ok(None),
-            },
-            Ty::Number => match with {
-                Ty::Range(_, _) => Ok(Some(Ty::Number)),
-                Ty::Number => Ok(Some(Ty::Number)),
-                _ => Ok(None),
-            },
+            }
+            (Ty::Bool, Ty::Bool) => Ok(Some(Ty::Bool)),
+            (Ty::Range(low, high), Ty::Range(from, to)) => {
+                Ok(Some(Ty::Range((*low).min(*from), (*high).max(*to))))
+            }
+            (Ty::Range(_, _), Ty::Number) => Ok(Some(Ty::Number)),
+            (Ty::Number, Ty::Range(_, _)) => Ok(Some(Ty::Number)),
+            (Ty::Number, Ty::Number) => Ok(Some(Ty::Number)),
+            (Ty::Tuple(parts), Ty::Tuple(other_parts)) => {
+                Ok(tuple_of(join_all(alloc, parts, other_parts)?))
+            }
+            _ => Ok(None),
         }
     }
-}
 
-impl Ty {
     /// Whether no bound in the type is -2^63, which no fraction has as its numerator.
     #[cycle(bounding)]
     #[tactic(auto, using(crate::proofs::TyLevels::bounds_fit_tuple))]
@@ -200,7 +152,7 @@ pub fn all_bounds_fit(types: &List<Ty>) -> bool
 }
 
 /// Whether the number is a whole number from the first to the second.
-pub fn is_between(low: i64, high: i64, number: &Frac) -> bool
+pub(crate) fn is_between(low: i64, high: i64, number: &Frac) -> bool
     ensures { result ≡ is_between low high number.now }
 {
     number.den() == 1 && low <= number.num() && number.num() <= high

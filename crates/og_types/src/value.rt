@@ -40,23 +40,14 @@ impl Value {
     fn is_same(&self, other: &Value) -> bool
         ensures { result ≡ same self.now other.now }
     {
-        match self {
-            Value::Case(family, index) => match other {
-                Value::Case(other, at) => family == other && index == at,
-                _ => false,
-            },
-            Value::Flag(first) => match other {
-                Value::Flag(second) => first == second,
-                _ => false,
-            },
-            Value::Number(first) => match other {
-                Value::Number(second) => first == second,
-                _ => false,
-            },
-            Value::Tuple(parts) => match other {
-                Value::Tuple(others) => are_same(parts, others),
-                _ => false,
-            },
+        match (self, other) {
+            (Value::Case(family, index), Value::Case(other_family, other_index)) => {
+                family == other_family && index == other_index
+            }
+            (Value::Flag(first), Value::Flag(second)) => first == second,
+            (Value::Number(first), Value::Number(second)) => first == second,
+            (Value::Tuple(parts), Value::Tuple(other_parts)) => are_same(parts, other_parts),
+            _ => false,
         }
     }
 
@@ -67,25 +58,19 @@ impl Value {
     pub fn order(&self, other: &Value) -> Ordering
         ensures { result ≡ order self.now other.now }
     {
-        match self {
-            Value::Case(family, index) => match other {
-                Value::Case(other, at) => family.cmp(other).then(index.cmp(at)),
-                _ => Ordering::Less,
-            },
-            Value::Flag(first) => match other {
-                Value::Case(_, _) => Ordering::Greater,
-                Value::Flag(second) => first.cmp(second),
-                _ => Ordering::Less,
-            },
-            Value::Number(first) => match other {
-                Value::Number(second) => first.cmp(second),
-                Value::Tuple(_) => Ordering::Less,
-                _ => Ordering::Greater,
-            },
-            Value::Tuple(parts) => match other {
-                Value::Tuple(others) => order_all(parts, others),
-                _ => Ordering::Greater,
-            },
+        match (self, other) {
+            (Value::Case(family, index), Value::Case(other_family, other_index)) => {
+                family.cmp(other_family).then(index.cmp(other_index))
+            }
+            (Value::Case(_, _), _) => Ordering::Less,
+            (Value::Flag(_), Value::Case(_, _)) => Ordering::Greater,
+            (Value::Flag(first), Value::Flag(second)) => first.cmp(second),
+            (Value::Flag(_), _) => Ordering::Less,
+            (Value::Number(first), Value::Number(second)) => first.cmp(second),
+            (Value::Number(_), Value::Tuple(_)) => Ordering::Less,
+            (Value::Number(_), _) => Ordering::Greater,
+            (Value::Tuple(parts), Value::Tuple(other_parts)) => order_all(parts, other_parts),
+            (Value::Tuple(_), _) => Ordering::Greater,
         }
     }
 }

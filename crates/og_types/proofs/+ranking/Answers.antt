@@ -7,7 +7,7 @@ use Rattle.og_types.specs.declared.ty.Ty.TheViews.{the_lemmas}
 use Rattle.og_types.proofs.Joint.{part_at, joint_rank_short, joint_rank_goes, joint_rank_stops, row_at, small_range, small_tuple}
 use Rattle.og_types.proofs.Ranks.{rank_enum_there, rank_enum_other, rank_enum_past, rank_range, rank_tuple}
 use Rattle.og_types.proofs.+ranking.Goals as goal
-use Rattle.og_types.proofs.+ranking.Goals.{ty::Ty::place-else-family-other-via-then-family-other+else-index-cases, ty::Ty::place-else-family-other-via-else-family-other}
+use Rattle.og_types.proofs.+ranking.Goals.{ty::Ty::place-else-family-of_family-via-then-family-of_family+else-index-cases, ty::Ty::place-else-family-of_family-via-else-family-of_family}
 
 pub rank::joint_place-returns-then-len : goal.rank::joint_place-returns-then-len
 rank::joint_place-returns-then-len t c = joint_rank_short c.args.types.now c.args.values.now (λ e. c.if-len.true (c.len.ensures ∙ e ∙ sym c.len-2.ensures))
@@ -51,28 +51,31 @@ rank::joint_place-returns-in-None-place t c =
 
 pub ty::Ty::place-place_between-requires : goal.ty::Ty::place-place_between-requires
 ty::Ty::place-place_between-requires t c =
-    let few : span c.in-Range.low c.in-Range.high ≤ 4096 = small_range c.in-Range.low c.in-Range.high (subst IsSmall c.in-Range.is c.requires.small) in
+    let few : span c.in-Range-Number.low c.in-Range-Number.high ≤ 4096 = small_range c.in-Range-Number.low c.in-Range-Number.high (subst IsSmall c.in-Range-Number.is-0 c.requires.small) in
     record { few = grind (arith, to_z-of_z, few) }
 
 pub ty::Ty::place-joint_place-requires : goal.ty::Ty::place-joint_place-requires
-ty::Ty::place-joint_place-requires t c = (search (rules, the_lemmas), small_tuple c.in-Tuple.types (subst IsSmall c.in-Tuple.is c.requires.small))
+ty::Ty::place-joint_place-requires t c = (search (rules, the_lemmas), small_tuple c.in-Tuple-Tuple.types (subst IsSmall c.in-Tuple-Tuple.is-0 c.requires.small))
 
 pub ty::Ty::place-returns-then-index-cases : goal.ty::Ty::place-returns-then-index-cases
 ty::Ty::place-returns-then-index-cases t c =
-    rank_enum_there c.args.self.now c.args.v.now c.in-Enum.family c.in-Enum.cases c.in-Case.other c.in-Case.index c.in-Enum.is c.in-Case.is c.if-family-other.true c.if-index-cases.true
+    let arm = c.in-Enum-Case in
+    rank_enum_there c.args.self.now c.args.v.now arm.family arm.cases arm.of_family arm.index arm.is-0 arm.is-1 c.if-family-of_family.true c.if-index-cases.true
 
-pub ty::Ty::place-returns-else-family-other : goal.ty::Ty::place-returns-else-family-other
-ty::Ty::place-returns-else-family-other t c =
-    elim c.else-family-other.branch [
-      | ty::Ty::place-else-family-other-via-then-family-other+else-index-cases w ↦
-          rank_enum_past c.args.self.now c.args.v.now c.in-Enum.family c.in-Enum.cases c.in-Case.other c.in-Case.index c.in-Enum.is c.in-Case.is w.if-family-other.true w.if-index-cases.false
-      | ty::Ty::place-else-family-other-via-else-family-other w ↦
-          rank_enum_other c.args.self.now c.args.v.now c.in-Enum.family c.in-Enum.cases c.in-Case.other c.in-Case.index c.in-Enum.is c.in-Case.is w.if-family-other.false
+pub ty::Ty::place-returns-else-family-of_family : goal.ty::Ty::place-returns-else-family-of_family
+ty::Ty::place-returns-else-family-of_family t c =
+    let arm = c.in-Enum-Case in
+    elim c.else-family-of_family.branch [
+      | ty::Ty::place-else-family-of_family-via-then-family-of_family+else-index-cases w ↦ rank_enum_past c.args.self.now c.args.v.now arm.family arm.cases arm.of_family arm.index arm.is-0 arm.is-1 w.if-family-of_family.true w.if-index-cases.false
+      | ty::Ty::place-else-family-of_family-via-else-family-of_family w ↦ rank_enum_other c.args.self.now c.args.v.now arm.family arm.cases arm.of_family arm.index arm.is-0 arm.is-1 w.if-family-of_family.false
     ]
 
-pub ty::Ty::place-returns-in-Number-v : goal.ty::Ty::place-returns-in-Number-v
-ty::Ty::place-returns-in-Number-v t c =
-    (let low : FitsSigned w64 c.in-Range.low = search rules in let high : FitsSigned w64 c.in-Range.high = search rules in simp to_z-of_z at c.place_between.ensures) ∙ rank_range c.args.self.now c.args.v.now c.in-Range.low c.in-Range.high c.in-Number-v.number c.in-Range.is c.in-Number-v.is
+pub ty::Ty::place-returns-in-Range-Number : goal.ty::Ty::place-returns-in-Range-Number
+ty::Ty::place-returns-in-Range-Number t c =
+    let arm = c.in-Range-Number in
+    (let low : FitsSigned w64 c.in-Range-Number.low = search rules in let high : FitsSigned w64 c.in-Range-Number.high = search rules in simp to_z-of_z at c.place_between.ensures)
+    ∙ rank_range c.args.self.now c.args.v.now arm.low arm.high arm.number arm.is-0 arm.is-1
 
-pub ty::Ty::place-returns-in-Tuple-v : goal.ty::Ty::place-returns-in-Tuple-v
-ty::Ty::place-returns-in-Tuple-v t c = c.joint_place.ensures ∙ rank_tuple c.args.self.now c.args.v.now c.in-Tuple.types c.in-Tuple-v.values c.in-Tuple.is c.in-Tuple-v.is
+pub ty::Ty::place-returns-in-Tuple-Tuple : goal.ty::Ty::place-returns-in-Tuple-Tuple
+ty::Ty::place-returns-in-Tuple-Tuple t c =
+    c.joint_place.ensures ∙ rank_tuple c.args.self.now c.args.v.now c.in-Tuple-Tuple.types c.in-Tuple-Tuple.values c.in-Tuple-Tuple.is-0 c.in-Tuple-Tuple.is-1
