@@ -29,7 +29,7 @@ stopped p (suc b) = elim (cases_lt p 4097) [
 ]
 
 -- a product may be stopped at each factor
-pub stopped_product : (many a b : ℕ) → min (min (many * min a 4097) 4097 * b) 4097 ≡ min (many * (a * b)) 4097
+stopped_product : (many a b : ℕ) → min (min (many * min a 4097) 4097 * b) 4097 ≡ min (many * (a * b)) 4097
 stopped_product many a b =
     stopped (many * min a 4097) b ∙ ap (λ n. min n 4097) (let turned : many * min a 4097 * b ≡ min a 4097 * (many * b) = omega arith in turned) ∙ stopped a (many * b) ∙ ap (λ n. min n 4097) (let turned : a * (many * b) ≡ many * (a * b) = omega arith in turned)
 
@@ -48,9 +48,6 @@ counted_goes ts i t many c next h p e f =
 pub counted_enum : (family n : ℕ) → Some (min n 4097) ≡ counted (is_finite (ty.Enum family n)) (length (values_of (ty.Enum family n)))
 counted_enum family n =
     ap (λ k. Some (min k 4097)) (sym (length-map-range_with_len (λ index. value.Case family index) 0 n)) ∙ (λ j. counted (sym (is_finite_enum family n) j) (length (sym (values_enum family n) j)))
-
-pub counted_bool : Some 2 ≡ counted (is_finite ty.Bool) (length (values_of ty.Bool))
-counted_bool = (λ j. counted (sym is_finite_bool j) (length (sym values_bool j)))
 
 pub counted_range : (low high : ℤ) → Some (min (span low high) 4097) ≡ counted (is_finite (ty.Range low high)) (length (values_of (ty.Range low high)))
 counted_range low high =

@@ -12,7 +12,7 @@ use Rattle.og_types.specs.ValueEquality.{and_true}
 use Rattle.og_types.specs.Values.{span}
 
 -- the greater number is the lesser and the gap
-pub gap_is : (low n : ℤ) → low ≤ℤ n → n ≡ low +ℤ pos (int_gap low n)
+gap_is : (low n : ℤ) → low ≤ℤ n → n ≡ low +ℤ pos (int_gap low n)
 gap_is (pos a) (pos b) h = omega (arith, ints)
 gap_is (pos a) (negsuc b) h = absurd (omega (arith, ints))
 gap_is (negsuc a) (pos b) h = omega (arith, ints)
@@ -30,10 +30,10 @@ le_not a b e = grind (arith, ints)
 pub true_le : (a b : ℤ) → a ≤ℤ b → int_le a b ≡ true
 true_le a b h = grind (arith, ints)
 
-pub false_le : (a b : ℤ) → (a ≤ℤ b → ⊥) → int_le a b ≡ false
+false_le : (a b : ℤ) → (a ≤ℤ b → ⊥) → int_le a b ≡ false
 false_le a b h = grind (arith, ints)
 
-pub not_le : (a b : ℤ) → (a ≤ℤ b → ⊥) → b <ℤ a
+not_le : (a b : ℤ) → (a ≤ℤ b → ⊥) → b <ℤ a
 not_le a b h = by (int_le a b) refl
   where
     by : (t : Bool) → int_le a b ≡ t → b <ℤ a

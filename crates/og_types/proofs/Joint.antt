@@ -63,13 +63,6 @@ part_at ts i t weight count h p finite weighs some few counts =
       finite_after = both.1;
     }
 
--- a type that a number stands in isn't among them
-pub part_finite : (ts : List Ty) (i : ℕ) (t : Ty) → i < length ts → t ≡ get_or ts i t → list_all is_finite (drop i ts) ≡ true → counted (is_finite t) (length (values_of t)) ≡ None → ⊥
-part_finite ts i t h p finite counts =
-    let both = all_at is_finite ts i t h p finite in
-    let none : Some (min (length (values_of t)) 4097) ≡ None = (λ j. counted (sym both.0 j) (length (values_of t))) ∙ counts in
-    absurd (cc)
-
 pub joint_rank_short : (ts : List Ty) (vs : List Value) → length ts ≢ length vs → None ≡ joint_rank_of ts vs
 joint_rank_short [] [] h = absurd (h refl)
 joint_rank_short [] (v ∷ vs) h = refl
@@ -98,13 +91,8 @@ pub joint_rank_stops : (ts : List Ty) (vs : List Value) (i : ℕ) (t : Ty) (v : 
 joint_rank_stops ts vs i t v before h p q r =
     ap (option_map (λ k. before + k)) ((λ j. together (length (joint_values_of (drop (i + 1) ts))) (r j) (joint_rank_of (drop (i + 1) ts) (drop (i + 1) vs))) ∙ sym (joint_rank_at ts vs i t v h p q))
 
--- where there is no list, none has a place
-pub place_of_none : {X : Type 0} (test : X → Bool) (xs : List X) → length xs ≡ 0 → None ≡ place_of test xs
-place_of_none test [] h = refl
-place_of_none test (x ∷ xs) h = absurd (omega arith)
-
 -- a place is below the length
-pub place_below : {X : Type 0} (test : X → Bool) (xs : List X) (k : ℕ) → Some k ≡ place_of test xs → k < length xs
+place_below : {X : Type 0} (test : X → Bool) (xs : List X) (k : ℕ) → Some k ≡ place_of test xs → k < length xs
 place_below test [] k h = absurd (cc)
 place_below test (x ∷ xs) k h = by (test x) (place_of test xs) h (place_below test xs)
   where

@@ -26,7 +26,7 @@ pub drop_got : {A : Type 0} (xs : List A) (i : ℕ) (x : A) → slice_get xs i �
 drop_got xs i x e = drop_at xs i x (slice_get_within xs i x e) (sym (get_or_from_slice_get xs i x x e))
 
 -- the test at a place, and after it
-pub pointwise_at : {A B : Type 0} (E : A → B → Bool) (xs : List A) (ys : List B) (i : ℕ) (x : A) (y : B) → i < length xs → x ≡ get_or xs i x → slice_get ys i ≡ Some y → pointwise E (drop i xs) (drop i ys) ≡ E x y && pointwise E (drop (i + 1) xs) (drop (i + 1) ys)
+pointwise_at : {A B : Type 0} (E : A → B → Bool) (xs : List A) (ys : List B) (i : ℕ) (x : A) (y : B) → i < length xs → x ≡ get_or xs i x → slice_get ys i ≡ Some y → pointwise E (drop i xs) (drop i ys) ≡ E x y && pointwise E (drop (i + 1) xs) (drop (i + 1) ys)
 pointwise_at E xs ys i x y h p q = λ j. pointwise E (drop_at xs i x h p j) (drop_got ys i y q j)
 
 -- a place where the test passes goes on, and one where it fails decides
@@ -68,10 +68,6 @@ drop_past [] (suc i) h = refl
 drop_past (x ∷ xs) zero h = absurd (cc)
 drop_past (x ∷ xs) (suc i) h = drop_past xs i h
 
--- the second list ends first
-pub slice_cmp_longer : {A B : Type 0} (R : A → B → Ordering) (xs : List A) (ys : List B) (i : ℕ) (x : A) → i < length xs → x ≡ get_or xs i x → slice_get ys i ≡ None → Greater ≡ slice_cmp R (drop i xs) (drop i ys)
-slice_cmp_longer R xs ys i x h p q = λ j. sym (λ k. slice_cmp R (drop_at xs i x h p k) (drop_past ys i q k)) j
-
 drop_end : {A : Type 0} (xs : List A) (i : ℕ) → length xs ≤ i → drop i xs ≡ []
 drop_end xs i h = drop_past xs i (slice_get_past xs i h)
 
@@ -89,7 +85,7 @@ slice_cmp_ended {A} {B} R xs ys i h k =
     ]
 
 -- how the joins go on, and where there is none
-pub joins_at : (ts us : List Ty) (i : ℕ) (t u : Ty) → i < length ts → t ≡ get_or ts i t → slice_get us i ≡ Some u → joins (map join (drop i ts)) (drop i us) ≡ option_and_then (λ w. option_map (λ ws. w ∷ ws) (joins (map join (drop (i + 1) ts)) (drop (i + 1) us))) (join t u)
+joins_at : (ts us : List Ty) (i : ℕ) (t u : Ty) → i < length ts → t ≡ get_or ts i t → slice_get us i ≡ Some u → joins (map join (drop i ts)) (drop i us) ≡ option_and_then (λ w. option_map (λ ws. w ∷ ws) (joins (map join (drop (i + 1) ts)) (drop (i + 1) us))) (join t u)
 joins_at ts us i t u h p q = λ j. joins (map join (drop_at ts i t h p j)) (drop_got us i u q j)
 
 pub joins_goes : (ts us all next : List Ty) (i : ℕ) (t u w : Ty) → i < length ts → t ≡ get_or ts i t → slice_get us i ≡ Some u → join t u ≡ Some w → next ≡ all ++ w ∷ [] → option_map (λ ws. next ++ ws) (joins (map join (drop (i + 1) ts)) (drop (i + 1) us)) ≡ option_map (λ ws. all ++ ws) (joins (map join (drop i ts)) (drop i us))

@@ -45,9 +45,6 @@ at_range low high r h = sym ((λ j. slice_get (values_range low high j) r) ∙ c
 pub at_range_past : (low high : ℤ) (r : ℕ) → ((low +ℤ pos r) ≤ℤ high → ⊥) → None ≡ slice_get (values_of (ty.Range low high)) r
 at_range_past low high r h = sym ((λ j. slice_get (values_range low high j) r) ∙ counted_past (λ k. value.Number (whole (low +ℤ pos k))) (span low high) r (span_past low high r h))
 
-pub at_number : (r : ℕ) → None ≡ slice_get (values_of ty.Number) r
-at_number r = λ j. slice_get (sym values_number j) r
-
 pub at_tuple : (ts : List Ty) (r : ℕ) → option_map value.Tuple (slice_get (joint_values_of ts) r) ≡ slice_get (values_of (ty.Tuple ts)) r
 at_tuple ts r = sym ((λ j. slice_get (values_tuple ts j) r) ∙ slice_get-map value.Tuple (joint_values_of ts) r)
 

@@ -13,26 +13,11 @@ use Rattle.og_types.specs.declared.value.Value.TheFolds.{fold-Value, fold-roll-V
 use Rattle.og_types.specs.declared.value.Value.TheVariants as value
 use Rattle.og_types.specs.Value.{same, same_step, order, order_step}
 use Rattle.og_types.specs.declared.enums.Enums.{Enums}
-use Rattle.og_types.specs.Names.{shown, shown_step, joined}
+use Rattle.og_types.specs.Names.{shown, shown_step, with_commas}
 use Rattle.og_types.proofs.Lists.{pointwise-map, slice_cmp-map}
 
--- each of the parts beside its proof
-proofs_of : (P : Value → Type 0) (es : List ((v : Value) × P v)) → AllByRecursion P (map (λ e. e.0) es)
-proofs_of P [] = tt
-proofs_of P (e ∷ es) = (e.1, proofs_of P es)
-
--- a fact that holds of each form where it holds of the parts
-pub value_induction : (P : Value → Type 0) → ((family index : ℕ) → P (value.Case family index)) → ((flag : Bool) → P (value.Flag flag)) → ((number : Fraction) → P (value.Number number)) → ((parts : List Value) → AllByRecursion P parts → P (value.Tuple parts)) → (v : Value) → P v
-value_induction P on_case on_flag on_number on_tuple = ind-Value P (λ x y is. subst (λ z. P (roll-Value z)) is (step y))
-  where
-    step : (y : Value-F ((v : Value) × P v)) → P (roll-Value (map-Value ((v : Value) × P v) Value (λ e. e.0) y))
-    step (one.Case family index) = subst P (sym (value.rolls-Case family index)) (on_case family index)
-    step (one.Flag flag) = subst P (sym (value.rolls-Flag flag)) (on_flag flag)
-    step (one.Number number) = subst P (sym (value.rolls-Number number)) (on_number number)
-    step (one.Tuple es) = subst P (sym (value.rolls-Tuple (map (λ e. e.0) es))) (on_tuple (map (λ e. e.0) es) (proofs_of P es))
-
 -- a definition at a tuple of values
-pub fold_tuple : (A : Type 0) (step : Value-F A → A) (vs : List Value) → fold-Value A step (value.Tuple vs) ≡ step (one.Tuple (map (fold-Value A step) vs))
+fold_tuple : (A : Type 0) (step : Value-F A → A) (vs : List Value) → fold-Value A step (value.Tuple vs) ≡ step (one.Tuple (map (fold-Value A step) vs))
 fold_tuple A step vs = ap (fold-Value A step) (sym (value.rolls-Tuple vs)) ∙ fold-roll-Value A step (one.Tuple vs)
 
 -- a definition of two values at two tuples
@@ -46,5 +31,5 @@ same_tuples vs ws = fold_tuples Bool same_step vs ws ∙ pointwise-map same (λ 
 pub order_tuples : (vs ws : List Value) → order (value.Tuple vs) (value.Tuple ws) ≡ slice_cmp order vs ws
 order_tuples vs ws = fold_tuples Ordering order_step vs ws ∙ slice_cmp-map order (λ part other. part other) vs ws
 
-pub shown_tuple : (enums : Enums) (vs : List Value) → shown enums (value.Tuple vs) ≡ codes "(" ++ joined (map (shown enums) vs) ++ codes ")"
+pub shown_tuple : (enums : Enums) (vs : List Value) → shown enums (value.Tuple vs) ≡ codes "(" ++ with_commas (map (shown enums) vs) ++ codes ")"
 shown_tuple enums vs = fold_tuple (List ℕ) (shown_step enums) vs

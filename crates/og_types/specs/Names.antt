@@ -18,14 +18,14 @@ abbrev pub case_of : Enums → ℕ → ℕ → Option (List ℕ)
 case_of enums family index = option_and_then (λ f. slice_get f.cases index) (slice_get enums.families family)
 
 -- the texts, with a comma and a space between each two
-abbrev pub joined : List (List ℕ) → List ℕ
-joined = join_by (λ part. part) (codes ", ")
+abbrev pub with_commas : List (List ℕ) → List ℕ
+with_commas = join_by (λ part. part) (codes ", ")
 
 abbrev pub shown_step : Enums → Value-F (List ℕ) → List ℕ
 shown_step enums (one.Case family index) = unwrap_or (case_of enums family index) []
 shown_step enums (one.Flag flag) = if flag then codes "true" else codes "false"
 shown_step enums (one.Number number) = text number
-shown_step enums (one.Tuple parts) = codes "(" ++ joined parts ++ codes ")"
+shown_step enums (one.Tuple parts) = codes "(" ++ with_commas parts ++ codes ")"
 
 -- a case by its name, true or false, a number, a tuple's values in parentheses
 abbrev pub shown : Enums → Value → List ℕ

@@ -1,4 +1,5 @@
--- Types: which fit which, their joins, and which values are of a type.
+-- Types: which fit which, their joins, and which values are of a type. Each `step` is the rule for one
+-- form of type, whose parts are already what the definition gives of them.
 use Rattle.std.specs.Prelude.{◌^◌, Bool, true, false, ◌==◌, ◌&&◌, if◌then◌else◌, nat_lt, ℤ, int_le, unsigned_abs, List, [], ◌∷◌, Option, Some, None, option_and_then}
 use Rattle.std.specs.Int.{int_min, int_max}
 use Rattle.std.specs.Ordering.{int_eq}

@@ -1,4 +1,5 @@
--- Types that are found to be the same are equal.
+-- Types that are found to be the same are equal. It stands here and not in proofs/ since the
+-- impls of PartialEq and Eq cite it.
 use Rattle.std.proofs.Common.{◌≡◌, Bool, true, false, ◌&&◌, ◌==◌, List, [], ◌∷◌, map, ap, sym, subst, ◌∙◌, refl, eq-eqb}
 use Rattle.std.specs.Prelude.{◌↔◌}
 use Rattle.std.specs.Ordering.{int_eq}
@@ -12,7 +13,7 @@ use Rattle.og_types.specs.declared.ty.Ty.TheViews.{out-Ty, roll-Ty, roll-out-Ty,
 use Rattle.og_types.specs.declared.ty.Ty.TheFolds.{fold-roll-Ty, map-Ty, ind-Ty}
 use Rattle.og_types.specs.Ty.{same, same_step}
 
-pub same_at : (z : Ty-F Ty) (w : Ty) → same (roll-Ty z) w ≡ same_step (map-Ty Ty (Ty → Bool) same z) (out-Ty w)
+same_at : (z : Ty-F Ty) (w : Ty) → same (roll-Ty z) w ≡ same_step (map-Ty Ty (Ty → Bool) same z) (out-Ty w)
 same_at z w = λ i. fold-roll-Ty (Ty → Bool) (λ v w. same_step v (out-Ty w)) z i w
 
 -- the claim of a value, for all others
@@ -39,7 +40,7 @@ levels_equal one.Number one.Number e = refl
 levels_equal (one.Tuple es) (one.Tuple ws) e = ap one.Tuple (parts_equal es ws e)
 levels_equal _ _ e = absurd (cc)
 
-pub same_equal : (v w : Ty) → same v w ≡ true → v ≡ w
+same_equal : (v w : Ty) → same v w ≡ true → v ≡ w
 same_equal = ind-Ty Claim (λ x y is. subst (λ z. Claim (roll-Ty z)) is (λ w e.
     ap roll-Ty (levels_equal y (out-Ty w) (sym (same_at (map-Ty ((v : Ty) × Claim v) Ty (λ e. e.0) y) w) ∙ e)) ∙ roll-out-Ty w))
 
@@ -54,16 +55,9 @@ level_itself (one.Range low high) = (λ i. (Decides-int_eq low low).1 refl i && 
 level_itself one.Number = refl
 level_itself (one.Tuple es) = parts_itself es
 
-pub same_itself : (v : Ty) → same v v ≡ true
+same_itself : (v : Ty) → same v v ≡ true
 same_itself = ind-Ty (λ v. same v v ≡ true) (λ x y is. subst (λ z. same (roll-Ty z) (roll-Ty z) ≡ true) is
     (let z = map-Ty ((v : Ty) × (same v v ≡ true)) Ty (λ e. e.0) y in same_at z (roll-Ty z) ∙ ap (same_step (map-Ty Ty (Ty → Bool) same z)) (out-roll-Ty z) ∙ level_itself y))
 
 pub same_decides : (v w : Ty) → (same v w ≡ true) ↔ (v ≡ w)
 same_decides v w = (same_equal v w, λ e. ap (same v) (sym e) ∙ same_itself v)
-
-pub not_same : (v w : Ty) → (v ≡ w → ⊥) → same v w ≡ false
-not_same v w h = by (same v w) refl
-  where
-    by : (b : Bool) → same v w ≡ b → b ≡ false
-    by true e = absurd (h (same_equal v w e))
-    by false e = refl

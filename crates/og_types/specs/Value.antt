@@ -1,4 +1,5 @@
--- Values: when two are equal, and in which order they stand.
+-- Values: when two are equal, and in which order they stand. Each `step` is the rule for one form of
+-- value, whose parts are already what the definition gives of them.
 use Rattle.std.specs.Prelude.{Bool, true, false, ◌==◌, ◌&&◌}
 use Rattle.std.specs.Ordering.{nat_cmp, bool_cmp, int_eq, ordering_then}
 use Rattle.std.specs.Cmp.Lexicographic.{pointwise, slice_cmp}
@@ -21,7 +22,6 @@ same_flag false false = true
 abbrev pub same_fraction : Fraction → Fraction → Bool
 same_fraction p q = int_eq p.numerator q.numerator && (p.denominator == q.denominator)
 
--- a value whose parts know when another value equals them, against a value
 abbrev pub same_step : Value-F (Value → Bool) → Value-F Value → Bool
 same_step (one.Case family index) (one.Case other at) = (family == other) && (index == at)
 same_step (one.Flag a) (one.Flag b) = same_flag a b

@@ -1,4 +1,5 @@
--- Values that are found to be the same are equal.
+-- Values that are found to be the same are equal. It stands here and not in proofs/ since the
+-- impls of PartialEq and Eq cite it.
 use Rattle.std.proofs.Common.{◌≡◌, ℕ, ℤ, Bool, true, false, ◌&&◌, ◌==◌, List, [], ◌∷◌, map, ap, sym, subst, ◌∙◌, refl, arith, eq-eqb}
 use Rattle.std.specs.Prelude.{◌↔◌}
 use Rattle.std.specs.Ordering.{int_eq}
@@ -83,10 +84,3 @@ same_itself = ind-Value (λ v. same v v ≡ true) (λ x y is. subst (λ z. same 
 
 pub same_decides : (v w : Value) → (same v w ≡ true) ↔ (v ≡ w)
 same_decides v w = (same_equal v w, λ e. ap (same v) (sym e) ∙ same_itself v)
-
-pub not_same : (v w : Value) → (v ≡ w → ⊥) → same v w ≡ false
-not_same v w h = by (same v w) refl
-  where
-    by : (b : Bool) → same v w ≡ b → b ≡ false
-    by true e = absurd (h (same_equal v w e))
-    by false e = refl

@@ -21,6 +21,7 @@ impl Ty {
         self.many()
     }
 
+    // `count`, which adds what follows from it.
     #[cycle(counting)]
     #[tactic(auto, using(crate::proofs::Counts::counted_tuple, crate::proofs::Counts::counted_enum, crate::proofs::Counts::counted_range))]
     fn many(&self) -> Option<u32>
@@ -63,6 +64,7 @@ pub fn joint_count(types: &List<Ty>) -> Option<u32>
     joint_many(types)
 }
 
+// `joint_count`, which adds what follows from it.
 #[cycle(counting)]
 fn joint_many(types: &List<Ty>) -> Option<u32>
     ensures many { result ≡ counted (list_all is_finite types.now) (length (joint_values_of types.now)) }

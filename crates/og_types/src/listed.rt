@@ -22,6 +22,7 @@ impl Ty {
         self.item(alloc, r)
     }
 
+    // `at_rank`, which adds what follows from it.
     #[cycle(listing)]
     fn item(&self, alloc: Global, r: u32) -> Result<Option<Value>, AllocError>
         requires small { IsSmall self.now }
@@ -48,6 +49,7 @@ impl Ty {
         'ranks: for rank in 0..count {
             match self.item(alloc, rank)? {
                 Some(value) => all.add(value)?,
+                // There is a value at each rank below the count.
                 None => return Ok(all),
             }
         }
@@ -55,7 +57,7 @@ impl Ty {
     }
 }
 
-/// The case of the enum at this index.
+/// The case of the enum at this index, or `None` where the enum hasn't so many.
 #[tactic(auto, using(crate::proofs::PlaceItems::at_enum, crate::proofs::PlaceItems::at_enum_past))]
 fn case_at(family: u32, cases: u32, r: u32) -> Option<Value>
     ensures { result ≡ slice_get (values_of (Ty.Enum family cases)) r }
@@ -67,7 +69,7 @@ fn case_at(family: u32, cases: u32, r: u32) -> Option<Value>
     }
 }
 
-/// False, and then true.
+/// False at 0 and true at 1.
 #[tactic(auto, using(crate::proofs::PlaceItems::at_bool))]
 fn flag_at(r: u32) -> Option<Value>
     ensures { result ≡ slice_get (values_of Ty.Bool) r }
@@ -79,7 +81,7 @@ fn flag_at(r: u32) -> Option<Value>
     }
 }
 
-/// The number of the range at this place.
+/// The number of the range at this place, or `None` where the range hasn't so many.
 #[tactic(auto, using(crate::proofs::PlaceItems::at_range, crate::proofs::PlaceItems::at_range_past))]
 fn number_at(low: i64, high: i64, r: u32) -> Option<Value>
     requires low { unsigned_abs low < 2 ^ 63 }
@@ -119,6 +121,7 @@ pub fn joint_at_rank(
     joint_item(alloc, types, r)
 }
 
+// `joint_at_rank`, which adds what follows from it.
 #[cycle(listing)]
 fn joint_item(alloc: Global, types: &List<Ty>, r: u32) -> Result<Option<List<Value>>, AllocError>
     requires small { AreSmall types.now }
@@ -156,6 +159,7 @@ pub fn joint_values(alloc: Global, types: &List<Ty>) -> Result<List<List<Value>>
     'ranks: for rank in 0..count {
         match joint_item(alloc, types, rank)? {
             Some(values) => all.add(values)?,
+            // There is a list at each rank below the count.
             None => return Ok(all),
         }
     }

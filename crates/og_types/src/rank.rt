@@ -21,6 +21,7 @@ impl Ty {
         self.place(v)
     }
 
+    // `rank`, which adds what follows from it.
     #[cycle(ranking)]
     #[tactic(auto, using(crate::proofs::Ranks::rank_at))]
     fn place(&self, v: &Value) -> Option<u32>
@@ -75,6 +76,7 @@ pub fn joint_rank(types: &List<Ty>, values: &List<Value>) -> Option<u32>
     joint_place(types, values)
 }
 
+// `joint_rank`, which adds what follows from it.
 #[cycle(ranking)]
 fn joint_place(types: &List<Ty>, values: &List<Value>) -> Option<u32>
     requires small { AreSmall types.now }
@@ -88,6 +90,7 @@ fn joint_place(types: &List<Ty>, values: &List<Value>) -> Option<u32>
         None => return None,
     };
     if weight == 0 {
+        // A type without values: no list is one of one value of each.
         return None;
     }
     let mut rank = 0;

@@ -1,5 +1,5 @@
 ghost use Rattle.std.specs.Prelude.{◌≡◌, ◌++◌, IfOk, OnOk, map, codes};
-ghost use Rattle.og_types.specs.Names.{shown, joined};
+ghost use Rattle.og_types.specs.Names.{shown, with_commas};
 
 use crate::enums::Enums;
 use crate::value::Value;
@@ -48,7 +48,7 @@ fn write_parts(
     alloc: Global,
     out: &mut Text,
 ) -> Result<(), AllocError>
-    ensures { OnOk result (out.new ≡ out.old ++ joined (map (shown enums.now) parts.now)) }
+    ensures { OnOk result (out.new ≡ out.old ++ with_commas (map (shown enums.now) parts.now)) }
 {
     'parts: for (at, part) in parts.as_slice().iter().enumerate() {
         if at > 0 {

@@ -8,10 +8,6 @@ use std::cmp::Ordering;
 use std::process::Abort;
 use std::test::Fail;
 
-const LEAST: i64 = -9_223_372_036_854_775_808;
-
-const MOST: i64 = 9_223_372_036_854_775_807;
-
 /// The list of the two items.
 fn pair<T: Drop>(alloc: Global, first: T, second: T) -> Result<List<T>, AllocError> {
     let mut items = List::new(alloc);
@@ -52,7 +48,7 @@ fn moves(alloc: Global) -> Result<Enums, AllocError> {
 }
 
 /// The values of the type as text, one after another. Each has its rank, and stands at it.
-fn told(rt: &impl Abort, alloc: Global, ty: &Ty) -> Result<Text, AllocError> {
+fn shown_values(rt: &impl Abort, alloc: Global, ty: &Ty) -> Result<Text, AllocError> {
     let enums = moves(alloc)?;
     let mut out = Text::from(alloc, "")?;
     let count = ty.count().expect(rt, "a finite type");
@@ -90,11 +86,11 @@ fn values_stand_in_order(rt: HostRuntime) -> Result<(), Fail> {
             pair_of(alloc, inner, Ty::Range(5, 5))?,
             "((false, 0), 5) ((false, 1), 5) ((true, 0), 5) ((true, 1), 5) ",
         ),
-        (pair_of(alloc, Ty::Range(0, MOST), Ty::Range(1, 0))?, ""),
+        (pair_of(alloc, Ty::Range(0, i64::MAX), Ty::Range(1, 0))?, ""),
         (Ty::Tuple(List::new(alloc)), "() "),
     ];
     for (ty, want) in rows {
-        assert_eq!(rt; told(&rt, alloc, &ty)?.as_str(), want);
+        assert_eq!(rt; shown_values(&rt, alloc, &ty)?.as_str(), want);
     }
     Ok(())
 }
@@ -109,7 +105,7 @@ fn counts_end_above_the_limit(rt: HostRuntime) -> Result<(), Fail> {
         (Ty::Range(0, 4094), Some(4095)),
         (Ty::Range(-1, 4094), Some(4096)),
         (Ty::Range(0, 4096), Some(4097)),
-        (Ty::Range(LEAST, MOST), Some(4097)),
+        (Ty::Range(i64::MIN, i64::MAX), Some(4097)),
         (Ty::Range(2, -2), Some(0)),
         (
             pair_of(alloc, Ty::Range(1, 64), Ty::Range(1, 64))?,
@@ -120,7 +116,7 @@ fn counts_end_above_the_limit(rt: HostRuntime) -> Result<(), Fail> {
             Some(4097),
         ),
         (
-            pair_of(alloc, Ty::Range(LEAST, MOST), Ty::Range(1, 0))?,
+            pair_of(alloc, Ty::Range(i64::MIN, i64::MAX), Ty::Range(1, 0))?,
             Some(0),
         ),
         (Ty::Tuple(List::new(alloc)), Some(1)),
@@ -130,7 +126,7 @@ fn counts_end_above_the_limit(rt: HostRuntime) -> Result<(), Fail> {
     for (ty, want) in rows {
         assert_eq!(rt; ty.count(), want);
     }
-    assert!(rt; !pair_of(alloc, Ty::Bool, Ty::Range(LEAST, 0))?.bounds_fit());
+    assert!(rt; !pair_of(alloc, Ty::Bool, Ty::Range(i64::MIN, 0))?.bounds_fit());
     Ok(())
 }
 
@@ -139,21 +135,24 @@ fn lists_of_values_have_ranks(rt: HostRuntime) -> Result<(), Fail> {
     let alloc = rt.alloc();
     let types = pair(alloc, Ty::Bool, Ty::Range(-1, 1))?;
     let values = pair(alloc, Value::Flag(true), fraction(&rt, -1, 1))?;
-    let strangers = pair(alloc, Value::Flag(true), fraction(&rt, 1, 2))?;
+    let others = pair(alloc, Value::Flag(true), fraction(&rt, 1, 2))?;
     let count = joint_count(&types).expect(&rt, "finite types");
     assert!(rt; count <= 4096 && all_bounds_fit(&types));
     assert_eq!(rt; count, 6);
     assert_eq!(rt; joint_rank(&types, &values), Some(3));
-    assert_eq!(rt; joint_rank(&types, &strangers), None);
+    assert_eq!(rt; joint_rank(&types, &others), None);
     assert_eq!(rt; joint_rank(&types, &List::new(alloc)), None);
     assert!(rt; joint_at_rank(alloc, &types, 6)? == None);
     let listed = joint_values(alloc, &types)?;
     assert_eq!(rt; listed.len(), 6);
+    for (rank, list) in listed.as_slice().iter().enumerate() {
+        assert!(rt; joint_rank(&types, list) == Some(rank as u32));
+    }
     let third = joint_at_rank(alloc, &types, 3)?.ok_or("the fourth list")?;
     assert!(rt; same(&third, &copy_values(alloc, &values)?));
-    assert!(rt; !same(&third, &strangers));
+    assert!(rt; !same(&third, &others));
     assert!(rt; listed.get(3).ok_or("the fourth list")? == &values);
-    assert!(rt; all_hold(&types, &values) && !all_hold(&types, &strangers));
+    assert!(rt; all_hold(&types, &values) && !all_hold(&types, &others));
     let copies = copy_types(alloc, &types)?;
     assert!(rt; copies == types && all_fit(&types, &copies));
     let joined = join_all(alloc, &types, &copies)?.ok_or("joins")?;
@@ -261,10 +260,37 @@ fn values_are_ordered_and_of_types(rt: HostRuntime) -> Result<(), Fail> {
     Ok(())
 }
 
+/// The lesser of the two, by the bound alone.
+fn lesser<T: Ord + Drop>(first: T, second: T) -> T {
+    std::cmp::min(first, second)
+}
+
+#[test]
+fn values_are_ord(rt: HostRuntime) {
+    let less = fraction(&rt, -3, 2);
+    let more = fraction(&rt, -1, 1);
+    assert_eq!(rt; less.cmp(&more), Ordering::Less);
+    assert_eq!(rt; more.partial_cmp(&less), Some(Ordering::Greater));
+    assert!(rt; less < more);
+    assert!(rt; lesser(more, less) == fraction(&rt, -3, 2));
+}
+
 #[test]
 fn names_of_enums_and_cases(rt: HostRuntime) -> Result<(), Fail> {
     let alloc = rt.alloc();
     let enums = moves(alloc)?.copy(alloc)?;
+    let first = enums.families.get(0).ok_or("a family")?.copy(alloc)?;
+    assert_eq!(rt; first.name.as_str(), "Move");
+    assert!(rt;
+        first.cases
+            == pair(
+                alloc,
+                Text::from(alloc, "Cooperate")?,
+                Text::from(alloc, "Defect")?
+            )?
+    );
+    assert_eq!(rt; enums.families.len(), 1);
+    assert_eq!(rt; enums.case(0, 0), Some("Cooperate"));
     assert_eq!(rt; enums.name(0), Some("Move"));
     assert_eq!(rt; enums.name(1), None);
     assert_eq!(rt; enums.case(0, 1), Some("Defect"));
