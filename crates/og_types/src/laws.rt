@@ -42,11 +42,12 @@ pub fn joint_ranking()
     ensures tuples { (ts : List Ty) (vs : List Value) → rank_of (ty.Tuple ts) (value.Tuple vs) ≡ joint_rank_of ts vs }
 {}
 
-/// Each type fits itself, what fits goes along, and so do the values.
+/// Fitting is an order of types, and a value of a type is one of each type that it fits.
 pub fn fitting()
-    ensures itself { (t : Ty) → fits t t ≡ true }
-    ensures along { (t u w : Ty) → fits t u ≡ true → fits u w ≡ true → fits t w ≡ true }
-    ensures values_too { (t u : Ty) (v : Value) → fits t u ≡ true → holds t v ≡ true → holds u v ≡ true }
+    ensures reflexive { (t : Ty) → fits t t ≡ true }
+    ensures transitive { (t u w : Ty) → fits t u ≡ true → fits u w ≡ true → fits t w ≡ true }
+    ensures antisymmetric { (t u : Ty) → fits t u ≡ true → fits u t ≡ true → t ≡ u }
+    ensures holds { (t u : Ty) (v : Value) → fits t u ≡ true → holds t v ≡ true → holds u v ≡ true }
 {}
 
 /// The join is the least type that both types fit, and there is none exactly where they fit no type
