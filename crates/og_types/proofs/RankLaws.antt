@@ -30,8 +30,8 @@ use Rattle.og_types.specs.declared.ty.Ty.TheViews.{roll-Ty, out-roll-Ty}
 use Rattle.og_types.specs.declared.ty.Ty.TheFolds.{fold-roll-Ty, map-Ty, ind-Ty}
 use Rattle.og_types.specs.declared.ty.Ty.TheVariants as ty
 use Rattle.og_types.specs.Ty.{holds, holds_step, is_finite, is_finite_step, is_between}
-use Rattle.og_types.specs.Value.{same, order, order_step}
-use Rattle.og_types.specs.ValueOrder.{order_at}
+use Rattle.og_types.specs.Value.{same, order}
+use Rattle.og_types.specs.ValueOrder.{order_cases, order_flags, order_numbers}
 use Rattle.og_types.proofs.FitsLaws.{holds_at}
 use Rattle.og_types.proofs.ValueLevels.{order_tuples}
 use Rattle.og_types.specs.ValueEquality.{same_equal, same_decides, and_true}
@@ -239,13 +239,10 @@ joint_ordered (t ∷ ts) all vs ws i j p q =
     ∙ (λ k. nat_cmp (sym one.at k) (sym two.at k))
 
 cases_ordered : (family i j : ℕ) → order (value.Case family i) (value.Case family j) ≡ nat_cmp i j
-cases_ordered family i j =
-    ap (λ v. order v (value.Case family j)) (sym (value.rolls-Case family i)) ∙ order_at (val.Case family i) (value.Case family j)
-    ∙ ap (order_step (val.Case family i)) (value.outs-Case family j) ∙ ap (λ r. ordering_then r (nat_cmp i j)) (tied_itself nat_cmp_total family)
+cases_ordered family i j = order_cases family i family j ∙ ap (λ r. ordering_then r (nat_cmp i j)) (tied_itself nat_cmp_total family)
 
 flags_ordered : (a b : Bool) → order (value.Flag a) (value.Flag b) ≡ nat_cmp (if a then 1 else 0) (if b then 1 else 0)
-flags_ordered a b =
-    ap (λ v. order v (value.Flag b)) (sym (value.rolls-Flag a)) ∙ order_at (val.Flag a) (value.Flag b) ∙ ap (order_step (val.Flag a)) (value.outs-Flag b) ∙ by a b
+flags_ordered a b = order_flags a b ∙ by a b
   where
     by : (a b : Bool) → bool_cmp a b ≡ nat_cmp (if a then 1 else 0) (if b then 1 else 0)
     by false false = refl
@@ -268,8 +265,7 @@ numbers_ordered : (low : ℤ) (i j : ℕ) → order (value.Number (whole (low +�
 numbers_ordered low i j =
     let p = whole (low +ℤ pos i) in
     let q = whole (low +ℤ pos j) in
-    ap (λ v. order v (value.Number q)) (sym (value.rolls-Number p)) ∙ order_at (val.Number p) (value.Number q) ∙ ap (order_step (val.Number p)) (value.outs-Number q)
-    ∙ ap (λ r. ordering_then r (nat_cmp 1 1)) (wholes_ordered low i j) ∙ by (nat_cmp i j)
+    order_numbers p q ∙ ap (λ r. ordering_then r (nat_cmp 1 1)) (wholes_ordered low i j) ∙ by (nat_cmp i j)
   where
     by : (r : Ordering) → ordering_then r (nat_cmp 1 1) ≡ r
     by Less = refl

@@ -1,9 +1,9 @@
 //! Laws of types and values, for the crates that compute with them. No call here does anything: its
 //! clauses are the laws.
-ghost use Rattle.std.specs.Prelude.{◌≡◌, ◌≢◌, ◌↔◌, ℕ, ◌+◌, ◌*◌, List, ◌∷◌, length, slice_get, Contains, AllPairs, IsTrue, true, Some, is_some, IsSomeAnd};
+ghost use Rattle.std.specs.Prelude.{◌≡◌, ◌≢◌, ◌↔◌, ℕ, ◌+◌, ◌*◌, List, ◌∷◌, length, slice_get, Contains, AllPairs, Bool, IsTrue, true, Some, is_some, IsSomeAnd};
 ghost use Rattle.std.specs.List.{list_all};
-ghost use Rattle.std.specs.Ordering.{nat_cmp, ordering_then, ordering_reverse};
-ghost use Rattle.std.specs.Cmp.Lexicographic.{pointwise};
+ghost use Rattle.std.specs.Ordering.{nat_cmp, bool_cmp, ordering_then, ordering_reverse};
+ghost use Rattle.std.specs.Cmp.Lexicographic.{pointwise, slice_cmp};
 ghost use Rattle.std.specs.declared.cmp.Ordering.TheVariants.{Less, Equal};
 ghost use Rattle.og_frac.specs.Fraction as fraction;
 ghost use Rattle.og_frac.specs.Fraction.{Fraction, IsInLowestTerms};
@@ -60,14 +60,20 @@ pub fn joining()
     ensures either_way { (t u : Ty) → join t u ≡ join u t }
 {}
 
-/// The order of values is total, it finds two values equal exactly where they are, and numbers in
-/// lowest terms stand as fractions do.
+/// The order of values is total, and it finds two values equal exactly where they are. Cases go by
+/// their enum and then by their place in it, false before true, tuples by their components from the
+/// first on, and numbers in lowest terms as fractions do.
 pub fn ordering()
     ensures reversed { (v w : Value) → order v w ≡ ordering_reverse (order w v) }
     ensures equal { (v w : Value) → (order v w ≡ Equal) ↔ (v ≡ w) }
-    ensures along { (u v w : Value) → order u v ≡ Less → order v w ≡ Less → order u w ≡ Less }
-    ensures numbers { (p q : Fraction) → IsInLowestTerms p → IsInLowestTerms q → order (Value.Number p) (Value.Number q) ≡ fraction.order p q }
-{}
+    ensures transitive { (u v w : Value) → order u v ≡ Less → order v w ≡ Less → order u w ≡ Less }
+    ensures numbers { (p q : Fraction) → IsInLowestTerms p → IsInLowestTerms q → order (value.Number p) (value.Number q) ≡ fraction.order p q }
+    ensures cases { (family index other at : ℕ) → order (value.Case family index) (value.Case other at) ≡ ordering_then (nat_cmp family other) (nat_cmp index at) }
+    ensures flags { (a b : Bool) → order (value.Flag a) (value.Flag b) ≡ bool_cmp a b }
+    ensures tuples { (vs ws : List Value) → order (value.Tuple vs) (value.Tuple ws) ≡ slice_cmp order vs ws }
+{
+    og_frac::laws::orders();
+}
 
 /// Values that are found to be the same are equal, and so are types, lists of values and lists of
 /// types.
