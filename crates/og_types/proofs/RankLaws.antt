@@ -306,24 +306,49 @@ some_of (Some k) e = (k, refl)
 ranked : (t : Ty) (v : Value) → is_finite t ≡ true → holds t v ≡ true → (k : ℕ) × (rank_of t v ≡ Some k)
 ranked t v f h = some_of (rank_of t v) (rank_there t v f ∙ h)
 
-pub each_listed : (t : Ty) (v : Value) → is_finite t ≡ true → (holds t v ≡ true) ↔ Contains (values_of t) v
-each_listed t v f = (
-  λ h.
-      let rank = ranked t v f h in
-      let at = at_rank t v rank.0 rank.1 in
-      (rank.0, slice_get_within (values_of t) rank.0 v at, get_or_from_slice_get (values_of t) rank.0 v v at),
-  λ there.
-      let at : slice_get (values_of t) there.0 ≡ Some v = slice_get-get_or (values_of t) there.0 v there.1 ∙ ap Some there.2 in
-      sym (rank_there t v f) ∙ ap is_some (rank_at_place t there.0 v at),
+-- where a rank is a place in the list, it is there exactly for what is in the list
+contained : {X : Type 0} (xs : List X) (x : X) (rank : Option ℕ) (h : Bool) → is_some rank ≡ h → ((k : ℕ) → rank ≡ Some k → slice_get xs k ≡ Some x) → ((k : ℕ) → slice_get xs k ≡ Some x → rank ≡ Some k) → (h ≡ true) ↔ Contains xs x
+contained xs x rank h there at from = (
+  λ e.
+      let found = some_of rank (there ∙ e) in
+      let is = at found.0 found.1 in
+      (found.0, slice_get_within xs found.0 x is, get_or_from_slice_get xs found.0 x x is),
+  λ place.
+      let is : slice_get xs place.0 ≡ Some x = slice_get-get_or xs place.0 x place.1 ∙ ap Some place.2 in
+      sym there ∙ ap is_some (from place.0 is),
 )
 
-pub listed_once : (t : Ty) → AllPairs (λ v w. v ≢ w) (values_of t)
-listed_once t = λ i j d h k e.
-    let first = rank_at_place t i (get_or (values_of t) i d) (slice_get-get_or (values_of t) i d (omega arith)) in
-    let second = rank_at_place t j (get_or (values_of t) j d) (slice_get-get_or (values_of t) j d k) in
-    let both : Some i ≡ Some j = sym first ∙ ap (rank_of t) e ∙ second in
+-- what has a rank by its place is there once
+once : {X : Type 0} (xs : List X) (rank : X → Option ℕ) → ((k : ℕ) (x : X) → slice_get xs k ≡ Some x → rank x ≡ Some k) → AllPairs (λ x y. x ≢ y) xs
+once xs rank from = λ i j d h k e.
+    let first = from i (get_or xs i d) (slice_get-get_or xs i d (omega arith)) in
+    let second = from j (get_or xs j d) (slice_get-get_or xs j d k) in
+    let both : Some i ≡ Some j = sym first ∙ ap rank e ∙ second in
     let same : i ≡ j = cc in
     omega arith
+
+pub each_listed : (t : Ty) (v : Value) → is_finite t ≡ true → (holds t v ≡ true) ↔ Contains (values_of t) v
+each_listed t v f = contained (values_of t) v (rank_of t v) (holds t v) (rank_there t v f) (at_rank t v) (λ k. rank_at_place t k v)
+
+pub listed_once : (t : Ty) → AllPairs (λ v w. v ≢ w) (values_of t)
+listed_once t = once (values_of t) (rank_of t) (rank_at_place t)
+
+pub each_joint : (ts : List Ty) (vs : List Value) → list_all is_finite ts ≡ true → (pointwise holds ts vs ≡ true) ↔ Contains (joint_values_of ts) vs
+each_joint ts vs f = contained (joint_values_of ts) vs (joint_rank_of ts vs) (pointwise holds ts vs) (joint_rank_there ts vs f) (at_joint_rank ts vs) (λ k. joint_rank_at_place ts k vs)
+
+pub joint_once : (ts : List Ty) → AllPairs (λ vs ws. vs ≢ ws) (joint_values_of ts)
+joint_once ts = once (joint_values_of ts) (joint_rank_of ts) (joint_rank_at_place ts)
+
+pub equal_joint_ranks : (ts : List Ty) (vs ws : List Value) (k : ℕ) → joint_rank_of ts vs ≡ Some k → joint_rank_of ts ws ≡ Some k → vs ≡ ws
+equal_joint_ranks ts vs ws k p q = let both : Some vs ≡ Some ws = sym (at_joint_rank ts vs k p) ∙ at_joint_rank ts ws k q in cc
+
+pub joint_ranks_ordered : (ts : List Ty) (vs ws : List Value) (i j : ℕ) → joint_rank_of ts vs ≡ Some i → joint_rank_of ts ws ≡ Some j → slice_cmp order vs ws ≡ nat_cmp i j
+unfolding Ordered
+joint_ranks_ordered ts vs ws i j p q = joint_ordered ts (each ts) vs ws i j (at_joint_rank ts vs i p) (at_joint_rank ts ws j q)
+  where
+    each : (ts : List Ty) → AllByRecursion Ordered ts
+    each [] = tt
+    each (t ∷ ts) = (places_ordered t, each ts)
 
 pub equal_ranks : (t : Ty) (v w : Value) → is_finite t ≡ true → holds t v ≡ true → holds t w ≡ true → (rank_of t v ≡ rank_of t w) ↔ (v ≡ w)
 equal_ranks t v w f p q = (

@@ -1,6 +1,6 @@
 //! Laws of types and values, for the crates that compute with them. No call here does anything: its
 //! clauses are the laws.
-ghost use Rattle.std.specs.Prelude.{◌≡◌, ◌≢◌, ◌↔◌, ℕ, ◌+◌, ◌*◌, List, ◌∷◌, length, slice_get, Contains, AllPairs, Bool, IsTrue, true, Some, is_some, IsSomeAnd};
+ghost use Rattle.std.specs.Prelude.{◌≡◌, ◌≢◌, ◌↔◌, ℕ, ◌+◌, ◌*◌, List, ◌∷◌, map, length, slice_get, Contains, AllPairs, Bool, IsTrue, true, Some, is_some, IsSomeAnd};
 ghost use Rattle.std.specs.List.{list_all};
 ghost use Rattle.std.specs.Ordering.{nat_cmp, bool_cmp, ordering_then, ordering_reverse};
 ghost use Rattle.std.specs.Cmp.Lexicographic.{pointwise, slice_cmp};
@@ -22,6 +22,14 @@ pub fn listing()
     ensures once { (t : Ty) → AllPairs (λ v w. v ≢ w) (values_of t) }
 {}
 
+/// The same of the lists of one value of each type. A tuple's values are these, as tuples.
+pub fn joint_listing()
+    ensures each { (ts : List Ty) (vs : List Value) → list_all is_finite ts ≡ true → (pointwise holds ts vs ≡ true) ↔ Contains (joint_values_of ts) vs }
+    ensures once { (ts : List Ty) → AllPairs (λ vs ws. vs ≢ ws) (joint_values_of ts) }
+    ensures many { (t : Ty) (ts : List Ty) → length (joint_values_of (t ∷ ts)) ≡ length (values_of t) * length (joint_values_of ts) }
+    ensures tuples { (ts : List Ty) → values_of (ty.Tuple ts) ≡ map value.Tuple (joint_values_of ts) }
+{}
+
 /// A rank is a place in the list: it is there exactly for the values of the type, it tells them apart,
 /// and it goes by their order.
 pub fn ranking()
@@ -36,7 +44,8 @@ pub fn ranking()
 pub fn joint_ranking()
     ensures places { (ts : List Ty) (vs : List Value) (k : ℕ) → (joint_rank_of ts vs ≡ Some k) ↔ (slice_get (joint_values_of ts) k ≡ Some vs) }
     ensures there { (ts : List Ty) (vs : List Value) → list_all is_finite ts ≡ true → is_some (joint_rank_of ts vs) ≡ pointwise holds ts vs }
-    ensures many { (t : Ty) (ts : List Ty) → length (joint_values_of (t ∷ ts)) ≡ length (values_of t) * length (joint_values_of ts) }
+    ensures equal { (ts : List Ty) (vs ws : List Value) (k : ℕ) → joint_rank_of ts vs ≡ Some k → joint_rank_of ts ws ≡ Some k → vs ≡ ws }
+    ensures ordered { (ts : List Ty) (vs ws : List Value) (i j : ℕ) → joint_rank_of ts vs ≡ Some i → joint_rank_of ts ws ≡ Some j → slice_cmp order vs ws ≡ nat_cmp i j }
     ensures parts { (t : Ty) (ts : List Ty) (v : Value) (vs : List Value) (i j : ℕ) → rank_of t v ≡ Some i → joint_rank_of ts vs ≡ Some j → joint_rank_of (t ∷ ts) (v ∷ vs) ≡ Some (i * length (joint_values_of ts) + j) }
     ensures first_slowest { (t : Ty) (ts : List Ty) (v w : Value) (vs ws : List Value) (i j k l m n : ℕ) → rank_of t v ≡ Some i → rank_of t w ≡ Some j → joint_rank_of ts vs ≡ Some k → joint_rank_of ts ws ≡ Some l → joint_rank_of (t ∷ ts) (v ∷ vs) ≡ Some m → joint_rank_of (t ∷ ts) (w ∷ ws) ≡ Some n → nat_cmp m n ≡ ordering_then (nat_cmp i j) (nat_cmp k l) }
     ensures tuples { (ts : List Ty) (vs : List Value) → rank_of (ty.Tuple ts) (value.Tuple vs) ≡ joint_rank_of ts vs }
