@@ -12,7 +12,7 @@ ghost use Rattle.og_types.specs.declared.value.Value.TheVariants as value;
 ghost use Rattle.og_types.specs.declared.ty.Ty.{Ty};
 ghost use Rattle.og_types.specs.declared.ty.Ty.TheVariants as ty;
 ghost use Rattle.og_types.specs.Value.{same, order};
-ghost use Rattle.og_types.specs.Ty.{fits, join, holds, is_finite};
+ghost use Rattle.og_types.specs.Ty.{fits, join, holds, is_finite, bounds_fit};
 ghost use Rattle.og_types.specs.Ty as types;
 ghost use Rattle.og_types.specs.Values.{values_of, joint_values_of, rank_of, joint_rank_of};
 
@@ -60,13 +60,15 @@ pub fn fitting()
 {}
 
 /// The join is the least type that both types fit, and there is none exactly where they fit no type
-/// in common.
+/// in common. Its bounds fit where those of both types do.
 pub fn joining()
     ensures fits_both { (t u w : Ty) → join t u ≡ Some w → (fits t w ≡ true) × (fits u w ≡ true) }
     ensures least { (t u w : Ty) → fits t w ≡ true → fits u w ≡ true → IsSomeAnd (join t u) (λ least. fits least w ≡ true) }
     ensures none { (t u : Ty) → (join t u ≡ None) ↔ ((w : Ty) → fits t w ≡ true → fits u w ≡ true → ⊥) }
-    ensures of_equals { (t : Ty) → join t t ≡ Some t }
-    ensures either_way { (t u : Ty) → join t u ≡ join u t }
+    ensures idempotent { (t : Ty) → join t t ≡ Some t }
+    ensures commute { (t u : Ty) → join t u ≡ join u t }
+    ensures fits_exactly { (t u : Ty) → (fits t u ≡ true) ↔ (join t u ≡ Some u) }
+    ensures bounds { (t u w : Ty) → bounds_fit t ≡ true → bounds_fit u ≡ true → join t u ≡ Some w → bounds_fit w ≡ true }
 {}
 
 /// The order of values is total, and it finds two values equal exactly where they are. Cases go by
