@@ -1,4 +1,4 @@
--- Which types fit which: each fits itself, what fits goes along, and so do the values.
+-- Fitting is an order of types, and a value of a type is one of each type that it fits.
 use Rattle.std.proofs.Common.{◌≡◌, ℕ, ℤ, Bool, true, ◌&&◌, ◌==◌, List, [], ◌∷◌, map, ap, sym, subst, ◌∙◌, refl, arith, eq-eqb}
 use Rattle.std.specs.Prelude.{int_le, nat_lt}
 use Rattle.std.specs.Cmp.Lexicographic.{pointwise}
@@ -44,6 +44,9 @@ int_le_itself a = grind (arith, ints)
 
 pub int_le_along : (a b c : ℤ) → int_le a b ≡ true → int_le b c ≡ true → int_le a c ≡ true
 int_le_along a b c p q = grind (arith, ints)
+
+int_le_both : (a b : ℤ) → int_le a b ≡ true → int_le b a ≡ true → a ≡ b
+int_le_both a b p q = grind (arith, ints)
 
 -- each type fits itself
 
@@ -97,6 +100,38 @@ pub fits_along : (t u w : Ty) → fits t u ≡ true → fits u w ≡ true → fi
 fits_along = ind-Ty Along (λ x y is. subst (λ z. Along (roll-Ty z)) is (λ u w p q.
     let z = map-Ty ((t : Ty) × Along t) Ty (λ e. e.0) y in
     fits_at z w ∙ levels_along y (out-Ty u) (out-Ty w) (sym (fits_at z u) ∙ p) (sym (fits_open u w) ∙ q)))
+
+-- types that fit each other are equal
+
+abbrev Both : Ty → Type 0
+Both t = (u : Ty) → fits t u ≡ true → fits u t ≡ true → t ≡ u
+
+parts_both : (es : List ((t : Ty) × Both t)) (us : List Ty) → pointwise (λ part other. part other) (map fits (map (λ e. e.0) es)) us ≡ true → pointwise (λ part other. part other) (map fits us) (map (λ e. e.0) es) ≡ true → map (λ e. e.0) es ≡ us
+parts_both [] [] p q = refl
+parts_both [] (u ∷ us) p q = absurd (cc)
+parts_both (e ∷ es) [] p q = absurd (cc)
+parts_both (e ∷ es) (u ∷ us) p q =
+    let first = and_true (fits e.0 u) (pointwise (λ part other. part other) (map fits (map (λ e. e.0) es)) us) p in
+    let second = and_true (fits u e.0) (pointwise (λ part other. part other) (map fits us) (map (λ e. e.0) es)) q in
+    (λ i. e.1 u first.0 second.0 i ∷ parts_both es us first.1 second.1 i)
+
+levels_both : (y : Ty-F ((t : Ty) × Both t)) (z : Ty-F Ty) → fits_step (map-Ty Ty (Ty → Bool) fits (map-Ty ((t : Ty) × Both t) Ty (λ e. e.0) y)) z ≡ true → fits_step (map-Ty Ty (Ty → Bool) fits z) (map-Ty ((t : Ty) × Both t) Ty (λ e. e.0) y) ≡ true → map-Ty ((t : Ty) × Both t) Ty (λ e. e.0) y ≡ z
+levels_both (one.Enum family cases) (one.Enum other count) p q =
+    let both = and_true (family == other) (cases == count) p in
+    (λ i. one.Enum (nat_equal family other both.0 i) (nat_equal cases count both.1 i))
+levels_both one.Bool one.Bool p q = refl
+levels_both (one.Range low high) (one.Range from to) p q =
+    let first = and_true (int_le from low) (int_le high to) p in
+    let second = and_true (int_le low from) (int_le to high) q in
+    (λ i. one.Range (int_le_both low from second.0 first.0 i) (int_le_both high to first.1 second.1 i))
+levels_both one.Number one.Number p q = refl
+levels_both (one.Tuple es) (one.Tuple us) p q = ap one.Tuple (parts_both es us p q)
+levels_both _ _ p q = absurd (cc)
+
+pub fits_both_ways : (t u : Ty) → fits t u ≡ true → fits u t ≡ true → t ≡ u
+fits_both_ways = ind-Ty Both (λ x y is. subst (λ z. Both (roll-Ty z)) is (λ u p q.
+    let z = map-Ty ((t : Ty) × Both t) Ty (λ e. e.0) y in
+    ap roll-Ty (levels_both y (out-Ty u) (sym (fits_at z u) ∙ p) (sym (fits_open u (roll-Ty z) ∙ ap (fits_step (map-Ty Ty (Ty → Bool) fits (out-Ty u))) (out-roll-Ty z)) ∙ q)) ∙ roll-out-Ty u))
 
 -- a value of a type is one of each type that it fits
 

@@ -1,8 +1,9 @@
 -- Joins of types: both types fit the join, it is the least such type, and the sides may be swapped.
 use Rattle.std.proofs.Common.{◌≡◌, ℕ, ℤ, Bool, true, false, cond, ◌&&◌, ◌==◌, List, [], ◌∷◌, map, ap, sym, subst, ◌∙◌, refl, arith}
-use Rattle.std.specs.Prelude.{int_le, Option, Some, None, option_and_then, IfSome, IsSomeAnd, ◌↔◌}
+use Rattle.std.specs.Prelude.{◌^◌, nat_lt, unsigned_abs, int_le, Option, Some, None, option_and_then, IfSome, IsSomeAnd, ◌↔◌}
 use Rattle.std.specs.Int.{int_min, int_max}
 use Rattle.std.specs.Option.{option_map}
+use Rattle.std.specs.List.{list_all}
 use Rattle.std.specs.Cmp.Lexicographic.{pointwise}
 use Rattle.std.proofs.lemmas.Int.{ints}
 use Rattle.og_types.specs.ValueEquality.{and_true, nat_equal}
@@ -12,8 +13,9 @@ use Rattle.og_types.specs.declared.ty.Ty.TheOpen as one
 use Rattle.og_types.specs.declared.ty.Ty.TheViews.{out-Ty, roll-Ty, roll-out-Ty, out-roll-Ty}
 use Rattle.og_types.specs.declared.ty.Ty.TheFolds.{fold-roll-Ty, map-Ty, ind-Ty}
 use Rattle.og_types.specs.declared.ty.Ty.TheVariants as ty
-use Rattle.og_types.specs.Ty.{fits, fits_step, join, join_step, joins}
-use Rattle.og_types.proofs.FitsLaws.{fits_at, fits_open, both_true, nat_same}
+use Rattle.og_types.specs.Ty.{fits, fits_step, join, join_step, joins, bounds_fit, bounds_fit_step}
+use Rattle.og_types.proofs.FitsLaws.{fits_at, fits_open, fits_itself, fits_both_ways, both_true, nat_same}
+use Rattle.og_types.proofs.TyLevels.{fold_enum, fold_bool, fold_range, fold_number, bounds_fit_tuple}
 
 pub join_at : (z : Ty-F Ty) (w : Ty) → join (roll-Ty z) w ≡ join_step (map-Ty Ty (Ty → Option Ty) join z) (out-Ty w)
 join_at z w = λ i. fold-roll-Ty (Ty → Option Ty) (λ t u. join_step t (out-Ty u)) z i w
@@ -51,6 +53,12 @@ min_itself a = grind (arith, ints)
 
 max_itself : (a : ℤ) → int_max a a ≡ a
 max_itself a = grind (arith, ints)
+
+min_small : (a b : ℤ) (n : ℕ) → nat_lt (unsigned_abs a) n ≡ true → nat_lt (unsigned_abs b) n ≡ true → nat_lt (unsigned_abs (int_min a b)) n ≡ true
+min_small a b n p q = grind (arith, ints)
+
+max_small : (a b : ℤ) (n : ℕ) → nat_lt (unsigned_abs a) n ≡ true → nat_lt (unsigned_abs b) n ≡ true → nat_lt (unsigned_abs (int_max a b)) n ≡ true
+max_small a b n p q = grind (arith, ints)
 
 -- both types fit the join
 
@@ -240,3 +248,62 @@ pub join_swapped : (t u : Ty) → join t u ≡ join u t
 join_swapped = ind-Ty Swapped (λ x y is. subst (λ z. Swapped (roll-Ty z)) is (λ u.
     let z = map-Ty ((t : Ty) × Swapped t) Ty (λ e. e.0) y in
     join_at z u ∙ levels_swapped y (out-Ty u) ∙ ap (join_step (map-Ty Ty (Ty → Option Ty) join (out-Ty u))) (sym (out-roll-Ty z)) ∙ sym (join_open u (roll-Ty z))))
+
+-- a type fits another exactly where the other is their join
+pub join_exactly : (t u : Ty) → (fits t u ≡ true) ↔ (join t u ≡ Some u)
+join_exactly t u = (
+  (λ p. by (join t u) refl (join_least t u u p (fits_itself u))),
+  (λ e. (join_fits t u u e).0),
+)
+  where
+    by : (o : Option Ty) → join t u ≡ o → IsSomeAnd o (λ least. fits least u ≡ true) → o ≡ Some u
+    by None e h = absurd h
+    by (Some w) e h = ap Some (fits_both_ways w u h (join_fits t u w e).1)
+
+-- the join's bounds fit where both types' do
+
+abbrev Bounds : Ty → Type 0
+Bounds t = (u : Ty) → bounds_fit t ≡ true → bounds_fit u ≡ true → IfSome (join t u) (λ w. bounds_fit w ≡ true)
+
+bounds_at : (z : Ty-F Ty) → bounds_fit (roll-Ty z) ≡ bounds_fit_step (map-Ty Ty Bool bounds_fit z)
+bounds_at z = fold-roll-Ty Bool bounds_fit_step z
+
+bounds_open : (u : Ty) → bounds_fit u ≡ bounds_fit_step (map-Ty Ty Bool bounds_fit (out-Ty u))
+bounds_open u = ap bounds_fit (sym (roll-out-Ty u)) ∙ bounds_at (out-Ty u)
+
+parts_bounds : (es : List ((t : Ty) × Bounds t)) (us : List Ty) → list_all (λ part. part) (map bounds_fit (map (λ e. e.0) es)) ≡ true → list_all (λ part. part) (map bounds_fit us) ≡ true → IfSome (joins (map join (map (λ e. e.0) es)) us) (λ ws. list_all bounds_fit ws ≡ true)
+parts_bounds [] [] p q = refl
+parts_bounds [] (u ∷ us) p q = tt
+parts_bounds (e ∷ es) [] p q = tt
+parts_bounds (e ∷ es) (u ∷ us) p q =
+    let first = and_true (bounds_fit e.0) (list_all (λ part. part) (map bounds_fit (map (λ e. e.0) es))) p in
+    let second = and_true (bounds_fit u) (list_all (λ part. part) (map bounds_fit us)) q in
+    by (join e.0 u) (joins (map join (map (λ e. e.0) es)) us) (e.1 u first.0 second.0) (parts_bounds es us first.1 second.1)
+  where
+    by : (o : Option Ty) (more : Option (List Ty)) → IfSome o (λ w. bounds_fit w ≡ true) → IfSome more (λ ws. list_all bounds_fit ws ≡ true) → IfSome (option_and_then (λ t. option_map (λ ts. t ∷ ts) more) o) (λ ws. list_all bounds_fit ws ≡ true)
+    by None more p q = tt
+    by (Some w) None p q = tt
+    by (Some w) (Some ws) p q = λ i. p i && q i
+
+levels_bounds : (y : Ty-F ((t : Ty) × Bounds t)) (z : Ty-F Ty) → bounds_fit_step (map-Ty Ty Bool bounds_fit (map-Ty ((t : Ty) × Bounds t) Ty (λ e. e.0) y)) ≡ true → bounds_fit_step (map-Ty Ty Bool bounds_fit z) ≡ true → IfSome (join_step (map-Ty Ty (Ty → Option Ty) join (map-Ty ((t : Ty) × Bounds t) Ty (λ e. e.0) y)) z) (λ w. bounds_fit w ≡ true)
+levels_bounds (one.Enum family cases) (one.Enum other count) p q = some_kept (ty.Enum family cases) (λ w. bounds_fit w ≡ true) ((family == other) && (cases == count)) (λ e. fold_enum Bool bounds_fit_step family cases)
+levels_bounds one.Bool one.Bool p q = fold_bool Bool bounds_fit_step
+levels_bounds (one.Range low high) (one.Range from to) p q =
+    let first = and_true (nat_lt (unsigned_abs low) (2 ^ 63)) (nat_lt (unsigned_abs high) (2 ^ 63)) p in
+    let second = and_true (nat_lt (unsigned_abs from) (2 ^ 63)) (nat_lt (unsigned_abs to) (2 ^ 63)) q in
+    fold_range Bool bounds_fit_step (int_min low from) (int_max high to)
+    ∙ both_true (nat_lt (unsigned_abs (int_min low from)) (2 ^ 63)) (nat_lt (unsigned_abs (int_max high to)) (2 ^ 63)) (min_small low from (2 ^ 63) first.0 second.0) (max_small high to (2 ^ 63) first.1 second.1)
+levels_bounds (one.Range low high) one.Number p q = fold_number Bool bounds_fit_step
+levels_bounds one.Number (one.Range from to) p q = fold_number Bool bounds_fit_step
+levels_bounds one.Number one.Number p q = fold_number Bool bounds_fit_step
+levels_bounds (one.Tuple es) (one.Tuple us) p q =
+    some_mapped ty.Tuple (λ ws. list_all bounds_fit ws ≡ true) (λ w. bounds_fit w ≡ true) (λ ws h. bounds_fit_tuple ws ∙ h) (joins (map join (map (λ e. e.0) es)) us) (parts_bounds es us p q)
+levels_bounds _ _ p q = tt
+
+bounds_kept : (t u : Ty) → bounds_fit t ≡ true → bounds_fit u ≡ true → IfSome (join t u) (λ w. bounds_fit w ≡ true)
+bounds_kept = ind-Ty Bounds (λ x y is. subst (λ z. Bounds (roll-Ty z)) is (λ u p q.
+    let z = map-Ty ((t : Ty) × Bounds t) Ty (λ e. e.0) y in
+    subst (λ (o : Option Ty). IfSome o (λ w. bounds_fit w ≡ true)) (sym (join_at z u)) (levels_bounds y (out-Ty u) (sym (bounds_at z) ∙ p) (sym (bounds_open u) ∙ q))))
+
+pub join_bounds : (t u w : Ty) → bounds_fit t ≡ true → bounds_fit u ≡ true → join t u ≡ Some w → bounds_fit w ≡ true
+join_bounds t u w p q e = subst (λ o. IfSome o (λ w. bounds_fit w ≡ true)) e (bounds_kept t u p q)

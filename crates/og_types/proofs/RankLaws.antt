@@ -30,8 +30,8 @@ use Rattle.og_types.specs.declared.ty.Ty.TheViews.{roll-Ty, out-roll-Ty}
 use Rattle.og_types.specs.declared.ty.Ty.TheFolds.{fold-roll-Ty, map-Ty, ind-Ty}
 use Rattle.og_types.specs.declared.ty.Ty.TheVariants as ty
 use Rattle.og_types.specs.Ty.{holds, holds_step, is_finite, is_finite_step, is_between}
-use Rattle.og_types.specs.Value.{same, order, order_step}
-use Rattle.og_types.specs.ValueOrder.{order_at}
+use Rattle.og_types.specs.Value.{same, order}
+use Rattle.og_types.specs.ValueOrder.{order_cases, order_flags, order_numbers}
 use Rattle.og_types.proofs.FitsLaws.{holds_at}
 use Rattle.og_types.proofs.ValueLevels.{order_tuples}
 use Rattle.og_types.specs.ValueEquality.{same_equal, same_decides, and_true}
@@ -239,13 +239,10 @@ joint_ordered (t ∷ ts) all vs ws i j p q =
     ∙ (λ k. nat_cmp (sym one.at k) (sym two.at k))
 
 cases_ordered : (family i j : ℕ) → order (value.Case family i) (value.Case family j) ≡ nat_cmp i j
-cases_ordered family i j =
-    ap (λ v. order v (value.Case family j)) (sym (value.rolls-Case family i)) ∙ order_at (val.Case family i) (value.Case family j)
-    ∙ ap (order_step (val.Case family i)) (value.outs-Case family j) ∙ ap (λ r. ordering_then r (nat_cmp i j)) (tied_itself nat_cmp_total family)
+cases_ordered family i j = order_cases family i family j ∙ ap (λ r. ordering_then r (nat_cmp i j)) (tied_itself nat_cmp_total family)
 
 flags_ordered : (a b : Bool) → order (value.Flag a) (value.Flag b) ≡ nat_cmp (if a then 1 else 0) (if b then 1 else 0)
-flags_ordered a b =
-    ap (λ v. order v (value.Flag b)) (sym (value.rolls-Flag a)) ∙ order_at (val.Flag a) (value.Flag b) ∙ ap (order_step (val.Flag a)) (value.outs-Flag b) ∙ by a b
+flags_ordered a b = order_flags a b ∙ by a b
   where
     by : (a b : Bool) → bool_cmp a b ≡ nat_cmp (if a then 1 else 0) (if b then 1 else 0)
     by false false = refl
@@ -268,8 +265,7 @@ numbers_ordered : (low : ℤ) (i j : ℕ) → order (value.Number (whole (low +�
 numbers_ordered low i j =
     let p = whole (low +ℤ pos i) in
     let q = whole (low +ℤ pos j) in
-    ap (λ v. order v (value.Number q)) (sym (value.rolls-Number p)) ∙ order_at (val.Number p) (value.Number q) ∙ ap (order_step (val.Number p)) (value.outs-Number q)
-    ∙ ap (λ r. ordering_then r (nat_cmp 1 1)) (wholes_ordered low i j) ∙ by (nat_cmp i j)
+    order_numbers p q ∙ ap (λ r. ordering_then r (nat_cmp 1 1)) (wholes_ordered low i j) ∙ by (nat_cmp i j)
   where
     by : (r : Ordering) → ordering_then r (nat_cmp 1 1) ≡ r
     by Less = refl
@@ -310,24 +306,49 @@ some_of (Some k) e = (k, refl)
 ranked : (t : Ty) (v : Value) → is_finite t ≡ true → holds t v ≡ true → (k : ℕ) × (rank_of t v ≡ Some k)
 ranked t v f h = some_of (rank_of t v) (rank_there t v f ∙ h)
 
-pub each_listed : (t : Ty) (v : Value) → is_finite t ≡ true → (holds t v ≡ true) ↔ Contains (values_of t) v
-each_listed t v f = (
-  λ h.
-      let rank = ranked t v f h in
-      let at = at_rank t v rank.0 rank.1 in
-      (rank.0, slice_get_within (values_of t) rank.0 v at, get_or_from_slice_get (values_of t) rank.0 v v at),
-  λ there.
-      let at : slice_get (values_of t) there.0 ≡ Some v = slice_get-get_or (values_of t) there.0 v there.1 ∙ ap Some there.2 in
-      sym (rank_there t v f) ∙ ap is_some (rank_at_place t there.0 v at),
+-- where a rank is a place in the list, it is there exactly for what is in the list
+contained : {X : Type 0} (xs : List X) (x : X) (rank : Option ℕ) (h : Bool) → is_some rank ≡ h → ((k : ℕ) → rank ≡ Some k → slice_get xs k ≡ Some x) → ((k : ℕ) → slice_get xs k ≡ Some x → rank ≡ Some k) → (h ≡ true) ↔ Contains xs x
+contained xs x rank h there at from = (
+  λ e.
+      let found = some_of rank (there ∙ e) in
+      let is = at found.0 found.1 in
+      (found.0, slice_get_within xs found.0 x is, get_or_from_slice_get xs found.0 x x is),
+  λ place.
+      let is : slice_get xs place.0 ≡ Some x = slice_get-get_or xs place.0 x place.1 ∙ ap Some place.2 in
+      sym there ∙ ap is_some (from place.0 is),
 )
 
-pub listed_once : (t : Ty) → AllPairs (λ v w. v ≢ w) (values_of t)
-listed_once t = λ i j d h k e.
-    let first = rank_at_place t i (get_or (values_of t) i d) (slice_get-get_or (values_of t) i d (omega arith)) in
-    let second = rank_at_place t j (get_or (values_of t) j d) (slice_get-get_or (values_of t) j d k) in
-    let both : Some i ≡ Some j = sym first ∙ ap (rank_of t) e ∙ second in
+-- what has a rank by its place is there once
+once : {X : Type 0} (xs : List X) (rank : X → Option ℕ) → ((k : ℕ) (x : X) → slice_get xs k ≡ Some x → rank x ≡ Some k) → AllPairs (λ x y. x ≢ y) xs
+once xs rank from = λ i j d h k e.
+    let first = from i (get_or xs i d) (slice_get-get_or xs i d (omega arith)) in
+    let second = from j (get_or xs j d) (slice_get-get_or xs j d k) in
+    let both : Some i ≡ Some j = sym first ∙ ap rank e ∙ second in
     let same : i ≡ j = cc in
     omega arith
+
+pub each_listed : (t : Ty) (v : Value) → is_finite t ≡ true → (holds t v ≡ true) ↔ Contains (values_of t) v
+each_listed t v f = contained (values_of t) v (rank_of t v) (holds t v) (rank_there t v f) (at_rank t v) (λ k. rank_at_place t k v)
+
+pub listed_once : (t : Ty) → AllPairs (λ v w. v ≢ w) (values_of t)
+listed_once t = once (values_of t) (rank_of t) (rank_at_place t)
+
+pub each_joint : (ts : List Ty) (vs : List Value) → list_all is_finite ts ≡ true → (pointwise holds ts vs ≡ true) ↔ Contains (joint_values_of ts) vs
+each_joint ts vs f = contained (joint_values_of ts) vs (joint_rank_of ts vs) (pointwise holds ts vs) (joint_rank_there ts vs f) (at_joint_rank ts vs) (λ k. joint_rank_at_place ts k vs)
+
+pub joint_once : (ts : List Ty) → AllPairs (λ vs ws. vs ≢ ws) (joint_values_of ts)
+joint_once ts = once (joint_values_of ts) (joint_rank_of ts) (joint_rank_at_place ts)
+
+pub equal_joint_ranks : (ts : List Ty) (vs ws : List Value) (k : ℕ) → joint_rank_of ts vs ≡ Some k → joint_rank_of ts ws ≡ Some k → vs ≡ ws
+equal_joint_ranks ts vs ws k p q = let both : Some vs ≡ Some ws = sym (at_joint_rank ts vs k p) ∙ at_joint_rank ts ws k q in cc
+
+pub joint_ranks_ordered : (ts : List Ty) (vs ws : List Value) (i j : ℕ) → joint_rank_of ts vs ≡ Some i → joint_rank_of ts ws ≡ Some j → slice_cmp order vs ws ≡ nat_cmp i j
+unfolding Ordered
+joint_ranks_ordered ts vs ws i j p q = joint_ordered ts (each ts) vs ws i j (at_joint_rank ts vs i p) (at_joint_rank ts ws j q)
+  where
+    each : (ts : List Ty) → AllByRecursion Ordered ts
+    each [] = tt
+    each (t ∷ ts) = (places_ordered t, each ts)
 
 pub equal_ranks : (t : Ty) (v w : Value) → is_finite t ≡ true → holds t v ≡ true → holds t w ≡ true → (rank_of t v ≡ rank_of t w) ↔ (v ≡ w)
 equal_ranks t v w f p q = (

@@ -142,3 +142,11 @@ order_decides v w = (equal_in_order v w, λ e. ap (order v) (sym e) ∙ order_it
 pub order_numbers : (p q : Fraction) → order (value.Number p) (value.Number q) ≡ total_order p q
 order_numbers p q =
     ap (λ v. order v (value.Number q)) (sym (value.rolls-Number p)) ∙ order_at (one.Number p) (value.Number q) ∙ ap (order_step (one.Number p)) (value.outs-Number q)
+
+pub order_cases : (family index other at : ℕ) → order (value.Case family index) (value.Case other at) ≡ ordering_then (nat_cmp family other) (nat_cmp index at)
+order_cases family index other at =
+    ap (λ v. order v (value.Case other at)) (sym (value.rolls-Case family index)) ∙ order_at (one.Case family index) (value.Case other at) ∙ ap (order_step (one.Case family index)) (value.outs-Case other at)
+
+pub order_flags : (a b : Bool) → order (value.Flag a) (value.Flag b) ≡ bool_cmp a b
+order_flags a b =
+    ap (λ v. order v (value.Flag b)) (sym (value.rolls-Flag a)) ∙ order_at (one.Flag a) (value.Flag b) ∙ ap (order_step (one.Flag a)) (value.outs-Flag b)

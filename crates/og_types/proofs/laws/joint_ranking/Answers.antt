@@ -1,10 +1,8 @@
 use Rattle.std.proofs.Common.{sym, refl}
 use Rattle.og_types.specs.declared.value.Value.TheVariants as value
 use Rattle.og_types.specs.declared.ty.Ty.TheVariants as ty
-use Rattle.og_types.specs.Values.{values_of, joint_values_of}
-use Rattle.og_types.proofs.Products.{length_product}
 use Rattle.og_types.proofs.Ranks.{rank_tuple}
-use Rattle.og_types.proofs.RankLaws.{at_joint_rank, joint_rank_at_place, joint_rank_there, rank_by_parts, first_slowest}
+use Rattle.og_types.proofs.RankLaws.{at_joint_rank, joint_rank_at_place, joint_rank_there, equal_joint_ranks, joint_ranks_ordered, rank_by_parts, first_slowest}
 use Rattle.og_types.proofs.laws.joint_ranking.Goals as goal
 
 pub returns-clause-places : goal.returns-clause-places
@@ -13,8 +11,11 @@ returns-clause-places c = λ ts vs k. (at_joint_rank ts vs k, joint_rank_at_plac
 pub returns-clause-there : goal.returns-clause-there
 returns-clause-there c = joint_rank_there
 
-pub returns-clause-many : goal.returns-clause-many
-returns-clause-many c = λ t ts. length_product (values_of t) (joint_values_of ts)
+pub returns-clause-equal : goal.returns-clause-equal
+returns-clause-equal c = equal_joint_ranks
+
+pub returns-clause-ordered : goal.returns-clause-ordered
+returns-clause-ordered c = joint_ranks_ordered
 
 pub returns-clause-parts : goal.returns-clause-parts
 returns-clause-parts c = rank_by_parts
