@@ -1,10 +1,10 @@
 -- Fitting is an order of types, and a value of a type is one of each type that it fits.
-use Rattle.std.proofs.Common.{◌≡◌, ℕ, ℤ, Bool, true, ◌&&◌, ◌==◌, List, [], ◌∷◌, map, ap, sym, subst, ◌∙◌, refl, arith, eq-eqb}
+use Rattle.std.proofs.Common.{◌≡◌, ℕ, ℤ, Bool, true, ◌&&◌, ◌==◌, List, [], ◌∷◌, map, ap, sym, subst, ◌∙◌, refl, arith, eq-eqb, eqb-true}
 use Rattle.std.specs.Prelude.{int_le, nat_lt}
 use Rattle.std.specs.Cmp.Lexicographic.{pointwise}
 use Rattle.std.proofs.lemmas.Int.{ints}
 use Rattle.og_frac.specs.Fraction.{Fraction}
-use Rattle.og_types.specs.ValueEquality.{and_true, nat_equal}
+use Rattle.og_types.specs.ValueEquality.{and_true}
 use Rattle.og_types.specs.declared.value.Value.{Value}
 use Rattle.og_types.specs.declared.value.Value.TheOpen.{Value-F}
 use Rattle.og_types.specs.declared.value.Value.TheOpen as value
@@ -32,12 +32,9 @@ holds_open u v = ap (λ t. holds t v) (sym (roll-out-Ty u)) ∙ holds_at (out-Ty
 pub both_true : (a b : Bool) → a ≡ true → b ≡ true → a && b ≡ true
 both_true a b p q = λ i. p i && q i
 
-pub nat_same : (m n : ℕ) → m ≡ n → (m == n) ≡ true
-nat_same m n e = eq-eqb m n e
-
 -- numbers that are equal to the same number
 pub nat_along : (a b c : ℕ) → (a == b) ≡ true → (b == c) ≡ true → (a == c) ≡ true
-nat_along a b c p q = nat_same a c (nat_equal a b p ∙ nat_equal b c q)
+nat_along a b c p q = eq-eqb a c (eqb-true a b p ∙ eqb-true b c q)
 
 pub int_le_itself : (a : ℤ) → int_le a a ≡ true
 int_le_itself a = grind (arith, ints)
@@ -55,7 +52,7 @@ parts_itself [] = refl
 parts_itself (e ∷ es) = (λ i. e.1 i && parts_itself es i)
 
 level_itself : (y : Ty-F ((t : Ty) × (fits t t ≡ true))) → fits_step (map-Ty Ty (Ty → Bool) fits (map-Ty ((t : Ty) × (fits t t ≡ true)) Ty (λ e. e.0) y)) (map-Ty ((t : Ty) × (fits t t ≡ true)) Ty (λ e. e.0) y) ≡ true
-level_itself (one.Enum family cases) = both_true (family == family) (cases == cases) (nat_same family family refl) (nat_same cases cases refl)
+level_itself (one.Enum family cases) = both_true (family == family) (cases == cases) (eq-eqb family family refl) (eq-eqb cases cases refl)
 level_itself one.Bool = refl
 level_itself (one.Range low high) = both_true (int_le low low) (int_le high high) (int_le_itself low) (int_le_itself high)
 level_itself one.Number = refl
@@ -118,7 +115,7 @@ parts_both (e ∷ es) (u ∷ us) p q =
 levels_both : (y : Ty-F ((t : Ty) × Both t)) (z : Ty-F Ty) → fits_step (map-Ty Ty (Ty → Bool) fits (map-Ty ((t : Ty) × Both t) Ty (λ e. e.0) y)) z ≡ true → fits_step (map-Ty Ty (Ty → Bool) fits z) (map-Ty ((t : Ty) × Both t) Ty (λ e. e.0) y) ≡ true → map-Ty ((t : Ty) × Both t) Ty (λ e. e.0) y ≡ z
 levels_both (one.Enum family cases) (one.Enum other count) p q =
     let both = and_true (family == other) (cases == count) p in
-    (λ i. one.Enum (nat_equal family other both.0 i) (nat_equal cases count both.1 i))
+    (λ i. one.Enum (eqb-true family other both.0 i) (eqb-true cases count both.1 i))
 levels_both one.Bool one.Bool p q = refl
 levels_both (one.Range low high) (one.Range from to) p q =
     let first = and_true (int_le from low) (int_le high to) p in
@@ -160,7 +157,7 @@ levels_pass : (y : Ty-F ((t : Ty) × Passes t)) (z : Ty-F Ty) (x : Value-F Value
 levels_pass (one.Enum family cases) (one.Enum other count) (value.Case last index) p q =
     let first = and_true (family == other) (cases == count) p in
     let second = and_true (family == last) (nat_lt index cases) q in
-    both_true (other == last) (nat_lt index count) (nat_same other last (sym (nat_equal family other first.0) ∙ nat_equal family last second.0)) (ap (nat_lt index) (sym (nat_equal cases count first.1)) ∙ second.1)
+    both_true (other == last) (nat_lt index count) (eq-eqb other last (sym (eqb-true family other first.0) ∙ eqb-true family last second.0)) (ap (nat_lt index) (sym (eqb-true cases count first.1)) ∙ second.1)
 levels_pass one.Bool one.Bool x p q = q
 levels_pass (one.Range low high) (one.Range from to) (value.Number number) p q = between_wider low high from to number p q
 levels_pass (one.Range low high) one.Number (value.Number number) p q = refl

@@ -1,12 +1,12 @@
 -- Joins of types: both types fit the join, it is the least such type, and the sides may be swapped.
-use Rattle.std.proofs.Common.{◌≡◌, ℕ, ℤ, Bool, true, false, cond, ◌&&◌, ◌==◌, List, [], ◌∷◌, map, ap, sym, subst, ◌∙◌, refl, arith}
+use Rattle.std.proofs.Common.{◌≡◌, ℕ, ℤ, Bool, true, false, cond, ◌&&◌, ◌==◌, List, [], ◌∷◌, map, ap, sym, subst, ◌∙◌, refl, arith, eqb-true, eq-eqb}
 use Rattle.std.specs.Prelude.{◌^◌, nat_lt, unsigned_abs, int_le, Option, Some, None, option_and_then, IfSome, IsSomeAnd, ◌↔◌}
 use Rattle.std.specs.Int.{int_min, int_max}
 use Rattle.std.specs.Option.{option_map}
 use Rattle.std.specs.List.{list_all}
 use Rattle.std.specs.Cmp.Lexicographic.{pointwise}
 use Rattle.std.proofs.lemmas.Int.{ints}
-use Rattle.og_types.specs.ValueEquality.{and_true, nat_equal}
+use Rattle.og_types.specs.ValueEquality.{and_true}
 use Rattle.og_types.specs.declared.ty.Ty.{Ty}
 use Rattle.og_types.specs.declared.ty.Ty.TheOpen.{Ty-F}
 use Rattle.og_types.specs.declared.ty.Ty.TheOpen as one
@@ -14,7 +14,7 @@ use Rattle.og_types.specs.declared.ty.Ty.TheViews.{out-Ty, roll-Ty, roll-out-Ty,
 use Rattle.og_types.specs.declared.ty.Ty.TheFolds.{fold-roll-Ty, map-Ty, ind-Ty}
 use Rattle.og_types.specs.declared.ty.Ty.TheVariants as ty
 use Rattle.og_types.specs.Ty.{fits, fits_step, join, join_step, joins, bounds_fit, bounds_fit_step}
-use Rattle.og_types.proofs.FitsLaws.{fits_at, fits_open, fits_itself, fits_both_ways, both_true, nat_same}
+use Rattle.og_types.proofs.FitsLaws.{fits_at, fits_open, fits_itself, fits_both_ways, both_true}
 use Rattle.og_types.proofs.TyLevels.{fold_enum, fold_bool, fold_range, fold_number, bounds_fit_tuple}
 
 pub join_at : (z : Ty-F Ty) (w : Ty) → join (roll-Ty z) w ≡ join_step (map-Ty Ty (Ty → Option Ty) join z) (out-Ty w)
@@ -88,8 +88,8 @@ levels_upper : (y : Ty-F ((t : Ty) × Upper t)) (z : Ty-F Ty) → IfSome (join_s
 levels_upper (one.Enum family cases) (one.Enum other count) =
     some_kept (ty.Enum family cases) (λ w. (fits_step (one.Enum family cases) (out-Ty w) ≡ true) × (fits_step (one.Enum other count) (out-Ty w) ≡ true)) ((family == other) && (cases == count)) (λ e.
     let both = and_true (family == other) (cases == count) e in (
-      ap (fits_step (one.Enum family cases)) (ty.outs-Enum family cases) ∙ both_true (family == family) (cases == cases) (nat_same family family refl) (nat_same cases cases refl),
-      ap (fits_step (one.Enum other count)) (ty.outs-Enum family cases) ∙ both_true (other == family) (count == cases) (nat_same other family (sym (nat_equal family other both.0))) (nat_same count cases (sym (nat_equal cases count both.1))),
+      ap (fits_step (one.Enum family cases)) (ty.outs-Enum family cases) ∙ both_true (family == family) (cases == cases) (eq-eqb family family refl) (eq-eqb cases cases refl),
+      ap (fits_step (one.Enum other count)) (ty.outs-Enum family cases) ∙ both_true (other == family) (count == cases) (eq-eqb other family (sym (eqb-true family other both.0))) (eq-eqb count cases (sym (eqb-true cases count both.1))),
     ))
 levels_upper one.Bool one.Bool = (ap (fits_step one.Bool) ty.outs-Bool, ap (fits_step one.Bool) ty.outs-Bool)
 levels_upper (one.Range low high) (one.Range from to) = (
@@ -152,7 +152,7 @@ levels_least (one.Enum last many) (one.Enum family cases) (one.Enum other count)
     let first = and_true (family == last) (cases == many) p in
     let second = and_true (other == last) (count == many) q in
     some_found (ty.Enum family cases) (λ least. fits_step (map-Ty Ty (Ty → Bool) fits (out-Ty least)) (one.Enum last many) ≡ true) ((family == other) && (cases == count))
-    (both_true (family == other) (cases == count) (nat_same family other (nat_equal family last first.0 ∙ sym (nat_equal other last second.0))) (nat_same cases count (nat_equal cases many first.1 ∙ sym (nat_equal count many second.1))))
+    (both_true (family == other) (cases == count) (eq-eqb family other (eqb-true family last first.0 ∙ sym (eqb-true other last second.0))) (eq-eqb cases count (eqb-true cases many first.1 ∙ sym (eqb-true count many second.1))))
     (ap (λ least. fits_step (map-Ty Ty (Ty → Bool) fits least) (one.Enum last many)) (ty.outs-Enum family cases) ∙ p)
 levels_least one.Bool one.Bool one.Bool p q = ap (λ least. fits_step (map-Ty Ty (Ty → Bool) fits least) one.Bool) ty.outs-Bool
 levels_least (one.Range least most) (one.Range low high) (one.Range from to) p q =
@@ -203,7 +203,7 @@ parts_itself [] = refl
 parts_itself (e ∷ es) = (λ i. option_and_then (λ t. option_map (λ ts. t ∷ ts) (parts_itself es i)) (e.1 i))
 
 level_itself : (y : Ty-F ((t : Ty) × Itself t)) → join_step (map-Ty Ty (Ty → Option Ty) join (map-Ty ((t : Ty) × Itself t) Ty (λ e. e.0) y)) (map-Ty ((t : Ty) × Itself t) Ty (λ e. e.0) y) ≡ Some (roll-Ty (map-Ty ((t : Ty) × Itself t) Ty (λ e. e.0) y))
-level_itself (one.Enum family cases) = chosen (ty.Enum family cases) ((family == family) && (cases == cases)) (both_true (family == family) (cases == cases) (nat_same family family refl) (nat_same cases cases refl)) ∙ ap Some (sym (ty.rolls-Enum family cases))
+level_itself (one.Enum family cases) = chosen (ty.Enum family cases) ((family == family) && (cases == cases)) (both_true (family == family) (cases == cases) (eq-eqb family family refl) (eq-eqb cases cases refl)) ∙ ap Some (sym (ty.rolls-Enum family cases))
 level_itself one.Bool = ap Some (sym ty.rolls-Bool)
 level_itself (one.Range low high) = (λ i. Some (ty.Range (min_itself low i) (max_itself high i))) ∙ ap Some (sym (ty.rolls-Range low high))
 level_itself one.Number = ap Some (sym ty.rolls-Number)
@@ -225,14 +225,14 @@ parts_swapped (e ∷ es) [] = refl
 parts_swapped (e ∷ es) (u ∷ us) = (λ i. option_and_then (λ t. option_map (λ ts. t ∷ ts) (parts_swapped es us i)) (e.1 u i))
 
 enums_swapped : (m n k l : ℕ) (a b : Bool) → (m == n) && (k == l) ≡ a → (n == m) && (l == k) ≡ b → cond a (Some (ty.Enum m k)) None ≡ cond b (Some (ty.Enum n l)) None
-enums_swapped m n k l true true p q = let both = and_true (m == n) (k == l) p in (λ i. Some (ty.Enum (nat_equal m n both.0 i) (nat_equal k l both.1 i)))
+enums_swapped m n k l true true p q = let both = and_true (m == n) (k == l) p in (λ i. Some (ty.Enum (eqb-true m n both.0 i) (eqb-true k l both.1 i)))
 enums_swapped m n k l true false p q =
     let both = and_true (m == n) (k == l) p in
-    let back = both_true (n == m) (l == k) (nat_same n m (sym (nat_equal m n both.0))) (nat_same l k (sym (nat_equal k l both.1))) in
+    let back = both_true (n == m) (l == k) (eq-eqb n m (sym (eqb-true m n both.0))) (eq-eqb l k (sym (eqb-true k l both.1))) in
     absurd (cc)
 enums_swapped m n k l false true p q =
     let both = and_true (n == m) (l == k) q in
-    let back = both_true (m == n) (k == l) (nat_same m n (sym (nat_equal n m both.0))) (nat_same k l (sym (nat_equal l k both.1))) in
+    let back = both_true (m == n) (k == l) (eq-eqb m n (sym (eqb-true n m both.0))) (eq-eqb k l (sym (eqb-true l k both.1))) in
     absurd (cc)
 enums_swapped m n k l false false p q = refl
 

@@ -16,7 +16,7 @@ use Rattle.std.proofs.lemmas.Nat.{div-add-mod'}
 use Rattle.std.proofs.Math.Nat.{div-lt_iff_lt-mul}
 use Rattle.og_types.proofs.Gaps.{span_within, span_past}
 use Rattle.og_types.proofs.Lists.{drop_at}
-use Rattle.og_types.proofs.TyLevels.{values_enum, values_bool, values_range, values_tuple, values_number}
+use Rattle.og_types.proofs.TyLevels.{values_enum, values_bool, values_range, values_tuple}
 use Rattle.og_types.proofs.Products.{product_at}
 
 number_at_place : (a n r : ℕ) → r < n → slice_get (range_with_len a n) r ≡ Some (a + r)

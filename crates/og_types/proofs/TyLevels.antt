@@ -36,16 +36,16 @@ type_induction P on_enum on_bool on_range on_tuple on_number = ind-Ty P (λ x y 
     step one.Number = subst P (sym ty.rolls-Number) on_number
 
 -- a definition at each form
-fold_enum : (A : Type 0) (step : Ty-F A → A) (family cases : ℕ) → fold-Ty A step (ty.Enum family cases) ≡ step (one.Enum family cases)
+pub fold_enum : (A : Type 0) (step : Ty-F A → A) (family cases : ℕ) → fold-Ty A step (ty.Enum family cases) ≡ step (one.Enum family cases)
 fold_enum A step family cases = ap (fold-Ty A step) (sym (ty.rolls-Enum family cases)) ∙ fold-roll-Ty A step (one.Enum family cases)
 
-fold_bool : (A : Type 0) (step : Ty-F A → A) → fold-Ty A step ty.Bool ≡ step one.Bool
+pub fold_bool : (A : Type 0) (step : Ty-F A → A) → fold-Ty A step ty.Bool ≡ step one.Bool
 fold_bool A step = ap (fold-Ty A step) (sym ty.rolls-Bool) ∙ fold-roll-Ty A step one.Bool
 
-fold_range : (A : Type 0) (step : Ty-F A → A) (low high : ℤ) → fold-Ty A step (ty.Range low high) ≡ step (one.Range low high)
+pub fold_range : (A : Type 0) (step : Ty-F A → A) (low high : ℤ) → fold-Ty A step (ty.Range low high) ≡ step (one.Range low high)
 fold_range A step low high = ap (fold-Ty A step) (sym (ty.rolls-Range low high)) ∙ fold-roll-Ty A step (one.Range low high)
 
-fold_number : (A : Type 0) (step : Ty-F A → A) → fold-Ty A step ty.Number ≡ step one.Number
+pub fold_number : (A : Type 0) (step : Ty-F A → A) → fold-Ty A step ty.Number ≡ step one.Number
 fold_number A step = ap (fold-Ty A step) (sym ty.rolls-Number) ∙ fold-roll-Ty A step one.Number
 
 fold_tuple : (A : Type 0) (step : Ty-F A → A) (ts : List Ty) → fold-Ty A step (ty.Tuple ts) ≡ step (one.Tuple (map (fold-Ty A step) ts))

@@ -1,15 +1,13 @@
 -- What definitions on values say at each form, and induction on values.
-use Rattle.std.proofs.Common.{◌≡◌, ℕ, Bool, List, [], ◌∷◌, map, ◌++◌, ap, sym, subst, ◌∙◌}
+use Rattle.std.proofs.Common.{◌≡◌, ℕ, Bool, List, map, ◌++◌, ap, sym, ◌∙◌}
 use Rattle.std.specs.Prelude.{codes}
-use Rattle.std.specs.List.{AllByRecursion}
 use Rattle.std.specs.Cmp.Lexicographic.{pointwise, slice_cmp}
 use Rattle.std.specs.declared.cmp.Ordering.{Ordering}
-use Rattle.og_frac.specs.Fraction.{Fraction}
 use Rattle.og_types.specs.declared.value.Value.{Value}
 use Rattle.og_types.specs.declared.value.Value.TheOpen.{Value-F}
 use Rattle.og_types.specs.declared.value.Value.TheOpen as one
-use Rattle.og_types.specs.declared.value.Value.TheViews.{out-Value, roll-Value}
-use Rattle.og_types.specs.declared.value.Value.TheFolds.{fold-Value, fold-roll-Value, map-Value, ind-Value}
+use Rattle.og_types.specs.declared.value.Value.TheViews.{out-Value}
+use Rattle.og_types.specs.declared.value.Value.TheFolds.{fold-Value, fold-roll-Value}
 use Rattle.og_types.specs.declared.value.Value.TheVariants as value
 use Rattle.og_types.specs.Value.{same, same_step, order, order_step}
 use Rattle.og_types.specs.declared.enums.Enums.{Enums}

@@ -1,11 +1,11 @@
 -- Types that are found to be the same are equal. It stands here and not in proofs/ since the
 -- impls of PartialEq and Eq cite it.
-use Rattle.std.proofs.Common.{◌≡◌, Bool, true, false, ◌&&◌, ◌==◌, List, [], ◌∷◌, map, ap, sym, subst, ◌∙◌, refl, eq-eqb}
+use Rattle.std.proofs.Common.{◌≡◌, Bool, true, ◌&&◌, ◌==◌, List, [], ◌∷◌, map, ap, sym, subst, ◌∙◌, refl, eq-eqb, eqb-true}
 use Rattle.std.specs.Prelude.{◌↔◌}
 use Rattle.std.specs.Ordering.{int_eq}
 use Rattle.std.specs.Cmp.Lexicographic.{pointwise}
 use Rattle.std.proofs.lemmas.Bool.Decides.{Decides-int_eq}
-use Rattle.og_types.specs.ValueEquality.{and_true, int_equal, nat_equal}
+use Rattle.og_types.specs.ValueEquality.{and_true, int_equal}
 use Rattle.og_types.specs.declared.ty.Ty.{Ty}
 use Rattle.og_types.specs.declared.ty.Ty.TheOpen.{Ty-F}
 use Rattle.og_types.specs.declared.ty.Ty.TheOpen as one
@@ -31,7 +31,7 @@ parts_equal (e ∷ es) (w ∷ ws) h =
 levels_equal : (y : Ty-F ((v : Ty) × Claim v)) (z : Ty-F Ty) → same_step (map-Ty Ty (Ty → Bool) same (map-Ty ((v : Ty) × Claim v) Ty (λ e. e.0) y)) z ≡ true → map-Ty ((v : Ty) × Claim v) Ty (λ e. e.0) y ≡ z
 levels_equal (one.Enum family cases) (one.Enum other count) e =
     let both = and_true (family == other) (cases == count) e in
-    (λ i. one.Enum (nat_equal family other both.0 i) (nat_equal cases count both.1 i))
+    (λ i. one.Enum (eqb-true family other both.0 i) (eqb-true cases count both.1 i))
 levels_equal one.Bool one.Bool e = refl
 levels_equal (one.Range low high) (one.Range from to) e =
     let both = and_true (int_eq low from) (int_eq high to) e in

@@ -1,11 +1,10 @@
 -- Values that are found to be the same are equal. It stands here and not in proofs/ since the
 -- impls of PartialEq and Eq cite it.
-use Rattle.std.proofs.Common.{◌≡◌, ℕ, ℤ, Bool, true, false, ◌&&◌, ◌==◌, List, [], ◌∷◌, map, ap, sym, subst, ◌∙◌, refl, arith, eq-eqb}
+use Rattle.std.proofs.Common.{◌≡◌, ℤ, Bool, true, false, ◌&&◌, ◌==◌, List, [], ◌∷◌, map, ap, sym, subst, ◌∙◌, refl, arith, eq-eqb, eqb-true}
 use Rattle.std.specs.Prelude.{◌↔◌}
 use Rattle.std.specs.Ordering.{int_eq}
 use Rattle.std.specs.Cmp.Lexicographic.{pointwise}
 use Rattle.std.proofs.lemmas.Int.{ints}
-use Rattle.std.proofs.lemmas.Bool.{eqb-true}
 use Rattle.std.proofs.lemmas.Bool.Decides.{Decides-int_eq}
 use Rattle.og_frac.specs.Fraction.{Fraction}
 use Rattle.og_types.specs.declared.value.Value.{Value}
@@ -31,13 +30,10 @@ flags_equal false false e = refl
 pub int_equal : (x y : ℤ) → int_eq x y ≡ true → x ≡ y
 int_equal x y e = grind (arith, ints, Decides-int_eq x y, e)
 
-pub nat_equal : (x y : ℕ) → (x == y) ≡ true → x ≡ y
-nat_equal x y e = eqb-true x y e
-
 fractions_equal : (p q : Fraction) → same_fraction p q ≡ true → p ≡ q
 fractions_equal p q e =
     let both = and_true (int_eq p.numerator q.numerator) (p.denominator == q.denominator) e in
-    (λ i. record { numerator = int_equal p.numerator q.numerator both.0 i; denominator = nat_equal p.denominator q.denominator both.1 i })
+    (λ i. record { numerator = int_equal p.numerator q.numerator both.0 i; denominator = eqb-true p.denominator q.denominator both.1 i })
 
 -- the claim of a value, for all others
 abbrev Claim : Value → Type 0
@@ -54,7 +50,7 @@ parts_equal (e ∷ es) (w ∷ ws) h =
 levels_equal : (y : Value-F ((v : Value) × Claim v)) (z : Value-F Value) → same_step (map-Value Value (Value → Bool) same (map-Value ((v : Value) × Claim v) Value (λ e. e.0) y)) z ≡ true → map-Value ((v : Value) × Claim v) Value (λ e. e.0) y ≡ z
 levels_equal (one.Case family index) (one.Case other at) e =
     let both = and_true (family == other) (index == at) e in
-    (λ i. one.Case (nat_equal family other both.0 i) (nat_equal index at both.1 i))
+    (λ i. one.Case (eqb-true family other both.0 i) (eqb-true index at both.1 i))
 levels_equal (one.Flag a) (one.Flag b) e = ap one.Flag (flags_equal a b e)
 levels_equal (one.Number p) (one.Number q) e = ap one.Number (fractions_equal p q e)
 levels_equal (one.Tuple es) (one.Tuple ws) e = ap one.Tuple (parts_equal es ws e)
