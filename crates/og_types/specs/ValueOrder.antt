@@ -1,4 +1,5 @@
--- The order of values is total, and it finds two values equal exactly where they are.
+-- The order of values is total, and it finds two values equal exactly where they are. It stands here
+-- and not in proofs/ since the impls of Ord and PartialOrd cite it.
 use Rattle.std.proofs.Common.{◌≡◌, ℕ, Bool, true, false, ◌==◌, List, [], ◌∷◌, map, ap, sym, subst, ◌∙◌, refl}
 use Rattle.std.specs.Prelude.{◌↔◌}
 use Rattle.std.specs.Ordering.{nat_cmp, bool_cmp, is_eq, ordering_then, ordering_reverse}
