@@ -7,13 +7,16 @@ use Rattle.og_io.specs.declared.faults.LoadFault.{LoadFault}
 use Rattle.og_io.specs.declared.faults.LoadFault.TheVariants as load
 use Rattle.og_io.specs.declared.faults.PutFault.{PutFault}
 use Rattle.og_io.specs.declared.faults.PutFault.TheVariants as put
+use Rattle.og_io.specs.Names.{times}
+use Rattle.og_io.specs.Outside.{FilesState, SinkState}
 
 -- Files in memory: what was added, in order, the numbers of the calls that are to fail, how many
--- calls were made, and the names whose calls failed.
+-- calls were made, the names that were loaded, and those whose loads failed.
 pub record Store : Type 0 where
   pub files : List (List ℕ × List ℕ)
   pub failing : List ℕ
   pub calls : ℕ
+  pub loaded : List (List ℕ)
   pub failed : List (List ℕ)
 
 -- The later of two, where there is one.
@@ -25,6 +28,10 @@ later None old = old
 abbrev pub bytes_under : List (List ℕ × List ℕ) → List ℕ → Option (List ℕ)
 bytes_under [] name = None
 bytes_under (file ∷ files) name = later (bytes_under files name) (if bytes_eq file.0 name then Some file.1 else None)
+
+-- what files in memory tell
+abbrev pub files_state : Store → FilesState
+files_state store = record { held = bytes_under store.files; loads = times store.loaded; faults = times store.failed }
 
 -- The number of the next call. Past 2 ^ 32 - 1 there is no number that could be told to fail.
 abbrev pub next_call : ℕ → ℕ
@@ -41,11 +48,18 @@ Answers told held cap (Err load.Long) = (told ≡ false) × IsSomeAnd held (λ b
 Answers told held cap (Err load.Memory) = ⊤
 
 -- The names whose loads failed: one more where this load failed, and else the same.
-abbrev pub Notes : List ℕ → List (List ℕ) → List (List ℕ) → Result (Vec ℕ Global) LoadFault → Type 0
-Notes name before now (Ok _) = now ≡ before
-Notes name before now (Err load.Failed) = now ≡ before ++ name ∷ []
-Notes name before now (Err load.Long) = now ≡ before
-Notes name before now (Err load.Memory) = now ≡ before
+abbrev pub NotesFault : List ℕ → List (List ℕ) → List (List ℕ) → Result (Vec ℕ Global) LoadFault → Type 0
+NotesFault name before after (Ok _) = after ≡ before
+NotesFault name before after (Err load.Failed) = after ≡ before ++ name ∷ []
+NotesFault name before after (Err load.Long) = after ≡ before
+NotesFault name before after (Err load.Memory) = after ≡ before
+
+-- The names that were loaded: one more, or the same for want of memory.
+abbrev pub NotesLoad : List ℕ → List (List ℕ) → List (List ℕ) → Result (Vec ℕ Global) LoadFault → Type 0
+NotesLoad name before after (Ok _) = after ≡ before ++ name ∷ []
+NotesLoad name before after (Err load.Failed) = after ≡ before ++ name ∷ []
+NotesLoad name before after (Err load.Long) = after ≡ before ++ name ∷ []
+NotesLoad name before after (Err load.Memory) = (after ≡ before ++ name ∷ []) ⊎ (after ≡ before)
 
 -- A sink in memory: what is written, how much more fits without memory, which calls are to fail and
 -- after how many bytes, how many calls were made, and how many failed.
@@ -55,6 +69,10 @@ pub record Tape : Type 0 where
   pub failing : List (ℕ × ℕ)
   pub calls : ℕ
   pub faults : ℕ
+
+-- what a sink in memory tells
+abbrev pub sink_state : Tape → SinkState
+sink_state tape = record { written = Some tape.written; puts = tape.calls; faults = tape.faults }
 
 -- After how many bytes a call is to fail: the later word counts.
 abbrev pub fails_after : List (ℕ × ℕ) → ℕ → Option ℕ

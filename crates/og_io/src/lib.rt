@@ -5,18 +5,19 @@
 
 mod faults;
 mod files;
-mod host;
+mod host_files;
+mod host_sink;
+mod log;
 mod mem_files;
 mod mem_sink;
-mod names;
 mod sink;
+mod whole;
 
 pub use faults::{LoadFault, PutFault};
 pub use files::Files;
-pub use host::{HostFiles, HostSink};
+pub use host_files::HostFiles;
+pub use host_sink::HostSink;
 pub use mem_files::MemFiles;
 pub use mem_sink::MemSink;
 pub use sink::Sink;
-
-#[cfg(test)]
-mod tests;
+pub use whole::{read_whole, write_whole};

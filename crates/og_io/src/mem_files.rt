@@ -1,10 +1,9 @@
 ghost use Rattle.std.specs.Prelude.{◌≡◌, ◌≢◌, true, ℕ, List, [], ◌∷◌, ◌++◌, ◌⊎◌, Option, Some, None, IsTrue, IfOk, OnOk, OnErr, length, map};
 ghost use Rattle.std.specs.Option.{option_copied};
-ghost use Rattle.og_io.specs.Outside.{CountsFaults, Loads, OnlyMoves};
-ghost use Rattle.og_io.specs.Names.{times};
-ghost use Rattle.og_io.specs.Fakes.{bytes_under, next_call, is_told, Answers, Notes};
+ghost use Rattle.og_io.specs.Outside.{CountsFault, CountsLoad, OnlyLoads, Reads};
+ghost use Rattle.og_io.specs.Fakes.{bytes_under, files_state, next_call, is_told, Answers, NotesFault, NotesLoad};
 
-use crate::names::{forget, note};
+use crate::log::Log;
 use crate::{Files, LoadFault};
 use og_list::{List, Text};
 use std::alloc::{AllocError, Global};
@@ -17,7 +16,7 @@ pub struct MemFiles {
     files: List<(Text, List<u8>)>,
     failing: List<u32>,
     calls: u64,
-    failed: List<Text>,
+    log: Log,
 }
 
 impl Model for MemFiles {
@@ -25,19 +24,19 @@ impl Model for MemFiles {
 
     ghost Value = { Store };
 
-    ghost view = { λ m. record { files = m.files; failing = m.failing; calls = m.calls; failed = m.failed } };
+    ghost view = { λ m. record { files = m.files; failing = m.failing; calls = m.calls; loaded = m.log.loaded; failed = m.log.failed } };
 }
 
 impl MemFiles {
     /// No file, and no call that is to fail.
     pub fn new(alloc: Global) -> MemFiles
-        ensures { result ≡ record { files = []; failing = []; calls = 0; failed = [] } }
+        ensures { result ≡ record { files = []; failing = []; calls = 0; loaded = []; failed = [] } }
     {
         MemFiles {
             files: List::new(alloc),
             failing: List::new(alloc),
             calls: 0,
-            failed: List::new(alloc),
+            log: Log::new(alloc),
         }
     }
 
@@ -95,7 +94,7 @@ fn answer(
     cap: usize,
 ) -> Result<Vec<u8>, LoadFault>
     ensures answers { Answers is_told (bytes_under files.now name.now) cap result }
-    ensures bytes { Loads (bytes_under files.now name.now) cap result }
+    ensures bytes { Reads (bytes_under files.now name.now) cap result }
 {
     if is_told {
         return Err(LoadFault::Failed);
@@ -108,31 +107,29 @@ fn answer(
 }
 
 impl Files for MemFiles {
-    ghost held = { λ m name. bytes_under m.files name };
-
-    ghost faults = { λ m name. times m.failed name };
+    ghost state = { λ m. files_state m };
 
     fn load(&mut self, alloc: Global, name: &str, cap: usize) -> Result<Vec<u8>, LoadFault>
-        ensures held { (other : List ℕ) → bytes_under self.new.files other ≡ bytes_under self.old.files other }
-        ensures moved { OnlyMoves name.now (times self.old.failed) (times self.new.failed) }
-        ensures counted { CountsFaults name.now (times self.old.failed) (times self.new.failed) result }
-        ensures bytes { Loads (bytes_under self.old.files name.now) cap result }
+        ensures only { OnlyLoads (name.now ∷ []) (files_state self.old) (files_state self.new) }
+        ensures counted { CountsLoad name.now (files_state self.old) (files_state self.new) result }
+        ensures fault { CountsFault name.now (files_state self.old) (files_state self.new) result }
+        ensures bytes { Reads (bytes_under self.old.files name.now) cap result }
         ensures files { self.new.files ≡ self.old.files }
         ensures failing { self.new.failing ≡ self.old.failing }
         ensures number { self.new.calls ≡ next_call self.old.calls }
-        ensures failed { Notes name.now self.old.failed self.new.failed result }
+        ensures loaded { NotesLoad name.now self.old.loaded self.new.loaded result }
+        ensures failed { NotesFault name.now self.old.failed self.new.failed result }
         ensures answers { Answers (is_told self.old.failing self.new.calls) (bytes_under self.old.files name.now) cap result }
     {
         self.calls = self.calls.saturating_add(1);
-        let call = self.calls;
-        if note(&mut self.failed, alloc, name).is_err() {
+        if self.log.begin(alloc, name).is_err() {
             return Err(LoadFault::Memory);
         }
-        let is_told = is_told(self.failing.as_slice(), call);
+        let is_told = is_told(self.failing.as_slice(), self.calls);
         match answer(self.files.as_slice(), is_told, alloc, name, cap) {
             Err(LoadFault::Failed) => Err(LoadFault::Failed),
             other => {
-                forget(&mut self.failed);
+                self.log.succeed();
                 other
             }
         }

@@ -1,6 +1,6 @@
 ghost use Rattle.std.specs.Prelude.{◌≡◌, ◌≢◌, ℕ, ◌≤◌, ◌+◌, ◌-◌, [], ◌∷◌, ◌++◌, Some, None, OnOk, OnErr, length, vec_len, vec_capacity};
 ghost use Rattle.og_io.specs.Outside.{Puts};
-ghost use Rattle.og_io.specs.Fakes.{fails_after, next_call, Counts, Takes};
+ghost use Rattle.og_io.specs.Fakes.{fails_after, next_call, sink_state, Counts, Takes};
 
 use crate::{PutFault, Sink};
 use og_list::List;
@@ -87,12 +87,10 @@ fn failing_after(failing: &[(u32, usize)], call: u64) -> Option<usize>
 }
 
 impl Sink for MemSink {
-    ghost written = { λ m. Some m.written };
-
-    ghost faults = { λ m. m.faults };
+    ghost state = { λ m. sink_state m };
 
     fn put(&mut self, bytes: &[u8]) -> Result<(), PutFault>
-        ensures grows { Puts bytes.now (Some self.old.written) self.old.faults (Some self.new.written) self.new.faults result }
+        ensures puts { Puts bytes.now (sink_state self.old) (sink_state self.new) result }
         ensures number { self.new.calls ≡ next_call self.old.calls }
         ensures failing { self.new.failing ≡ self.old.failing }
         ensures faults { Counts self.old.faults self.new.faults result }

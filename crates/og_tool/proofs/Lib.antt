@@ -1,6 +1,5 @@
-pub mod Merges
-pub mod Long
-pub mod Gaps
+pub mod HalvesMeet
+pub mod TokenOrder
 pub mod PlainTexts
-pub mod Trees
-pub mod Single
+pub mod OneTree
+pub mod OneAnswer

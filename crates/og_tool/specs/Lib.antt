@@ -1,7 +1,8 @@
 pub mod Codes
-pub mod Words
+pub mod Command
 pub mod Held
-pub mod Fetching
 pub mod Texts
 pub mod Answer
-pub mod Steps
+pub mod Ran
+pub mod Fetching
+pub mod Halves

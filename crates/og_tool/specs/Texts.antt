@@ -1,7 +1,6 @@
 -- Which texts are small games and small strategies.
 use Rattle.std.specs.Prelude.{◌≡◌, ℕ, ◌≤◌, nat_lt, Bool, true, ◌&&◌, Option, MatchOption, List, [], ◌∷◌, length, drop, slice_range}
 use Rattle.std.specs.List.{list_all}
-use Rattle.og_lex.specs.declared.lexer.TheConstants.{MAX_TEXT}
 use Rattle.og_lex.specs.declared.token.Token.{Token}
 use Rattle.og_lex.specs.Characters.{is_blank}
 use Rattle.og_lex.specs.Spelling.{AreTokens}
@@ -10,17 +9,22 @@ use Rattle.og_small.specs.declared.tree.Section.{Section}
 use Rattle.og_small.specs.Rules.{is_accepted}
 use Rattle.og_read.specs.Spelled.{SpellsGame, SpellsStrategy}
 
+-- how many bytes a text has at the most: 1 MiB
+abbrev pub longest_text : ℕ
+longest_text = 1048576
+
 -- From a place on, only blanks stand round the tokens.
 abbrev pub are_gaps_blank : List ℕ → ℕ → List Token → Bool
 are_gaps_blank text place [] = list_all is_blank (drop place text)
-are_gaps_blank text place (t ∷ ts) = list_all is_blank (slice_range text place t.start) && are_gaps_blank text t.end ts
+are_gaps_blank text place (t ∷ ts) =
+    list_all is_blank (slice_range text place t.start) && are_gaps_blank text t.end ts
 
 abbrev pub is_ascii : List ℕ → Bool
 is_ascii text = list_all (λ byte. nat_lt byte 128) text
 
 -- A text that isn't too long, of ASCII and with no comment, and its tokens.
 pub record IsPlain (text : List ℕ) (ts : List Token) : Type 0 where
-  pub short : length text ≤ MAX_TEXT
+  pub short : length text ≤ longest_text
   pub ascii : is_ascii text ≡ true
   pub tokens : AreTokens text ts
   pub no_comment : are_gaps_blank text 0 ts ≡ true

@@ -1,13 +1,15 @@
-ghost use Rattle.std.specs.Prelude.{◌≡◌, ℕ, List, ◌≤◌, ◌↔◌, ◌⊎◌, Some, None, IfOk, OnOk, map, string_bytes};
-ghost use Rattle.og_io.specs.Outside.{NoneRose, OnlyMoves};
+ghost use Rattle.std.specs.Prelude.{◌≡◌, ◌↔◌, [], ◌∷◌, Some, IfOk, codes, map, string_bytes};
+ghost use Rattle.og_io.specs.Outside.{OnlyLoads};
 ghost use Rattle.og_small.specs.Meaning.{choices_of};
 ghost use Rattle.og_small.specs.Equilibrium.{IsEquilibrium};
 ghost use Rattle.og_small.specs.Report.{report};
-ghost use Rattle.og_tool.specs.Words.{named};
-ghost use Rattle.og_tool.specs.Answer.{BadStrategy, Reports, verdict_of, Intends, MovesNamed};
-ghost use Rattle.og_tool.specs.Steps.{StepsToGame, StepsToStrategy};
+ghost use Rattle.og_tool.specs.Command.{command_of, files_of};
+ghost use Rattle.og_tool.specs.Answer.{AnswersStrategy, verdict_of};
+ghost use Rattle.og_tool.specs.Ran.{AnswersWords};
+ghost use Rattle.og_tool.specs.Halves.{StepsToGame, StepsToStrategy};
 
 use crate::Status;
+use crate::command::command_of;
 use crate::fetch::{Fetched, fetch};
 use crate::read::{game_of, one_small_strategy, strategy_of};
 use og_io::Files;
@@ -40,9 +42,8 @@ fn line(alloc: Global, status: Status, line: &[u8]) -> Result<Answer, AllocError
 
 /// Reads the game's file, and its text.
 fn step_to_game<F: Files>(alloc: Global, file: &str, files: &mut F) -> Result<GameStep, AllocError>
-    ensures held { (name : List ℕ) → F.held files.new name ≡ F.held files.old name }
-    ensures moved { OnlyMoves file.now (F.faults files.old) (F.faults files.new) }
-    ensures steps { IfOk result (StepsToGame file.now (F.held files.old) (F.faults files.old) (F.faults files.new)) }
+    ensures only { OnlyLoads (file.now ∷ []) (F.state files.old) (F.state files.new) }
+    ensures steps { IfOk result (StepsToGame file.now (F.state files.old) (F.state files.new)) }
 {
     let bad = b"refused game NotBuilt at 1:1\n".as_slice();
     let missed = b"refused read game\n".as_slice();
@@ -76,7 +77,7 @@ fn reported(alloc: Global, tree: &SmallGame, sections: &[Section]) -> Result<Ans
 
 /// The report on the game under the strategy's text, or its refusal.
 fn judge(alloc: Global, tree: &SmallGame, text: &[u8]) -> Result<Answer, AllocError>
-    ensures { IfOk result (λ a. BadStrategy tree.now text.now a.status a.bytes ⊎ Reports tree.now text.now a.status a.bytes) }
+    ensures { IfOk result (AnswersStrategy tree.now text.now) }
 {
     one_small_strategy();
     let bad = b"refused strategy NotBuilt at 1:1\n".as_slice();
@@ -100,9 +101,8 @@ fn step_to_strategy<F: Files>(
     file: &str,
     files: &mut F,
 ) -> Result<Answer, AllocError>
-    ensures held { (name : List ℕ) → F.held files.new name ≡ F.held files.old name }
-    ensures moved { OnlyMoves file.now (F.faults files.old) (F.faults files.new) }
-    ensures steps { IfOk result (StepsToStrategy file.now tree.now (F.held files.old) (F.faults files.old) (F.faults files.new)) }
+    ensures only { OnlyLoads (file.now ∷ []) (F.state files.old) (F.state files.new) }
+    ensures steps { IfOk result (StepsToStrategy tree.now file.now (F.state files.old) (F.state files.new)) }
 {
     let bad = b"refused strategy NotBuilt at 1:1\n".as_slice();
     let missed = b"refused read strategy\n".as_slice();
@@ -114,16 +114,16 @@ fn step_to_strategy<F: Files>(
 }
 
 /// Reads both files in turn, and answers.
+#[tactic(auto, using(crate::proofs::HalvesMeet::loads_twice, crate::proofs::HalvesMeet::loads_once))]
 fn check<F: Files>(
     alloc: Global,
     game: &str,
     strategy: &str,
     files: &mut F,
 ) -> Result<Answer, AllocError>
-    ensures held { (name : List ℕ) → F.held files.new name ≡ F.held files.old name }
-    ensures moved { MovesNamed (Some (record { game = game.now; strategy = strategy.now })) (F.faults files.old) (F.faults files.new) }
-    ensures answer { IfOk result (λ a. Intends (Some (record { game = game.now; strategy = strategy.now }))
-        (F.held files.old) (F.faults files.old) (F.faults files.new) a.status a.bytes) }
+    ensures only { OnlyLoads (game.now ∷ strategy.now ∷ []) (F.state files.old) (F.state files.new) }
+    ensures answers { IfOk result (AnswersWords
+        (Some (record { game = game.now; strategy = strategy.now })) (F.state files.old) (F.state files.new)) }
 {
     match step_to_game(alloc, game, files)? {
         GameStep::Accepted(tree) => Ok(step_to_strategy(alloc, &tree, strategy, files)?),
@@ -132,18 +132,19 @@ fn check<F: Files>(
 }
 
 /// What to write for the words, and the status to end with.
+#[tactic(auto, using(crate::proofs::HalvesMeet::loads_none, crate::proofs::HalvesMeet::reads_none))]
 pub(crate) fn answer_words<F: Files>(
     alloc: Global,
     words: &[String],
     files: &mut F,
 ) -> Result<Answer, AllocError>
-    ensures held { (name : List ℕ) → F.held files.new name ≡ F.held files.old name }
-    ensures moved { MovesNamed (named (map string_bytes words.now)) (F.faults files.old) (F.faults files.new) }
-    ensures answer { IfOk result (λ a. Intends (named (map string_bytes words.now))
-        (F.held files.old) (F.faults files.old) (F.faults files.new) a.status a.bytes) }
+    ensures only { OnlyLoads (files_of (command_of (map string_bytes words.now)))
+        (F.state files.old) (F.state files.new) }
+    ensures answers { IfOk result (AnswersWords (command_of (map string_bytes words.now))
+        (F.state files.old) (F.state files.new)) }
 {
-    match crate::words::named(words) {
-        Some((game, strategy)) => check(alloc, game, strategy, files),
+    match command_of(words) {
+        Some(command) => check(alloc, command.game, command.strategy, files),
         None => line(alloc, Status::Words, b"refused words\n"),
     }
 }

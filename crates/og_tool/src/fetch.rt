@@ -1,5 +1,5 @@
-ghost use Rattle.std.specs.Prelude.{◌≡◌, ℕ, List, IfOk};
-ghost use Rattle.og_io.specs.Outside.{OnlyMoves};
+ghost use Rattle.std.specs.Prelude.{[], ◌∷◌, IfOk};
+ghost use Rattle.og_io.specs.Outside.{OnlyLoads};
 ghost use Rattle.og_tool.specs.Fetching.{Fetches};
 
 use og_io::{Files, LoadFault};
@@ -21,9 +21,8 @@ pub(crate) fn fetch<F: Files>(
     file: &str,
     files: &mut F,
 ) -> Result<Fetched, AllocError>
-    ensures held { (name : List ℕ) → F.held files.new name ≡ F.held files.old name }
-    ensures moved { OnlyMoves file.now (F.faults files.old) (F.faults files.new) }
-    ensures fetches { IfOk result (Fetches file.now (F.held files.old file.now) (F.faults files.old) (F.faults files.new)) }
+    ensures only { OnlyLoads (file.now ∷ []) (F.state files.old) (F.state files.new) }
+    ensures fetches { IfOk result (Fetches file.now (F.state files.old) (F.state files.new)) }
 {
     match files.load(alloc, file, MAX_TEXT) {
         Ok(text) => Ok(Fetched::Text(text)),

@@ -2,18 +2,15 @@
 #![tactic(auto)]
 
 mod answer;
+mod command;
 mod fetch;
 mod laws;
 mod plain;
 mod read;
 mod status;
 mod top;
-mod words;
 
 pub use laws::one_answer;
 pub use read::{one_small_game, one_small_strategy};
 pub use status::Status;
 pub use top::run;
-
-#[cfg(test)]
-mod tests;

@@ -3,7 +3,7 @@ ghost use Rattle.std.specs.List.{list_all};
 ghost use Rattle.og_lex.specs.declared.token.Token.{Token};
 ghost use Rattle.og_lex.specs.Characters.{is_blank};
 ghost use Rattle.og_lex.specs.Spelling.{AreInOrder};
-ghost use Rattle.og_tool.specs.Texts.{are_gaps_blank, is_ascii, IsPlain, ReadsPlain};
+ghost use Rattle.og_tool.specs.Texts.{longest_text, are_gaps_blank, is_ascii, IsPlain, ReadsPlain};
 
 use og_lex::{LexFault, MAX_TEXT, Token, lex, one_lexing};
 use og_list::List;
@@ -34,7 +34,7 @@ fn is_gap_blank(text: &[u8], from: usize, to: usize) -> bool
 }
 
 /// Whether only blanks stand round the tokens.
-#[tactic(auto, using(crate::proofs::Gaps::gap_starts, crate::proofs::Gaps::gap_ends))]
+#[tactic(auto, using(crate::proofs::TokenOrder::gap_starts, crate::proofs::TokenOrder::gap_ends))]
 fn are_gaps_blank(text: &[u8], tokens: &[Token]) -> bool
     requires { AreInOrder 0 (length text.now) tokens.now }
     ensures { result ≡ are_gaps_blank text.now 0 tokens.now }
@@ -51,8 +51,9 @@ fn are_gaps_blank(text: &[u8], tokens: &[Token]) -> bool
 
 /// The text of ASCII bytes, or None where a byte isn't ASCII or there are too many.
 fn ascii_text(bytes: &[u8]) -> Option<&str>
-    ensures some { IfSome result (λ text. (text.now ≡ bytes.now) × (length bytes.now ≤ MAX_TEXT) × (is_ascii bytes.now ≡ true)) }
-    ensures none { IfNone result ((length bytes.now ≤ MAX_TEXT) → is_ascii bytes.now ≡ false) }
+    ensures some { IfSome result (λ text. (text.now ≡ bytes.now)
+        × (length bytes.now ≤ longest_text) × (is_ascii bytes.now ≡ true)) }
+    ensures none { IfNone result ((length bytes.now ≤ longest_text) → is_ascii bytes.now ≡ false) }
 {
     if bytes.len() > MAX_TEXT || !is_ascii(bytes) {
         return None;

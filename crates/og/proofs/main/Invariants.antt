@@ -1,4 +1,4 @@
 use Rattle.og.proofs.main.Given as goal
 
-abbrev pub ghosts-counted : goal.ghosts-counted
-ghosts-counted a = record { name = a.blank.name; parts = a.blank.parts }
+abbrev pub ghosts-run_told : goal.ghosts-run_told
+ghosts-run_told a = record { name = a.blank.name; parts = a.blank.parts }

@@ -1,14 +1,13 @@
-use Rattle.std.proofs.Common.{◌≡◌, ◌∙◌, ap, List, Option, true, false, subst, inl}
+use Rattle.std.proofs.Common.{◌≡◌, ◌∙◌, ap, List, Option, true, false, subst, inl, inr}
+use Rattle.std.specs.Prelude.{◌↔◌}
 use Rattle.og_small.specs.declared.tree.Section.{Section}
 use Rattle.og_small.specs.Rules.{fits}
-use Rattle.og_tool.specs.Texts.{IsStrategy, ReadsStrategy}
-use Rattle.std.proofs.Common.{inr}
-use Rattle.std.specs.Prelude.{◌↔◌}
 use Rattle.og_small.specs.Meaning.{choices_of}
 use Rattle.og_small.specs.Report.{report}
 use Rattle.og_small.specs.Equilibrium.{IsEquilibrium}
 use Rattle.og_tool.specs.declared.status.Status.TheVariants.{Done}
 use Rattle.og_tool.specs.Answer.{verdict_of}
+use Rattle.og_tool.specs.Texts.{IsStrategy, ReadsStrategy}
 use Rattle.og_tool.proofs.answer.judge.Goals as goal
 
 pub returns-in-Some : goal.returns-in-Some
@@ -20,8 +19,10 @@ returns-in-Some c =
           let same : others ≡ c.in-Some.sections = c.one_small_strategy.ensures c.args.text.now others c.in-Some.sections other_is is_strategy in
           let suits : fits c.args.tree.now c.in-Some.sections ≡ true = subst (λ (s : List Section). fits c.args.tree.now s ≡ true) same other_fits in
           absurd (cc);
-      ends_as = c.in_ok-line-in-Some.ensures.ends;
-      writes = c.in_ok-line-in-Some.ensures.writes ∙ c.as_slice-bad.ensures;
+      refusal = record {
+        status = c.in_ok-line-in-Some.ensures.ends;
+        bytes = c.in_ok-line-in-Some.ensures.writes ∙ c.as_slice-bad.ensures;
+      };
     })
 
 pub returns : goal.returns
@@ -30,8 +31,10 @@ returns c =
     subst (λ (o : Option (List Section)). ReadsStrategy c.args.text.now o) c.in-None.is c.in_ok-sections.ensures in
     inl (record {
       cause = λ sections is _. none sections is;
-      ends_as = c.in_ok-line-in-None.ensures.ends;
-      writes = c.in_ok-line-in-None.ensures.writes ∙ c.as_slice-bad.ensures;
+      refusal = record {
+        status = c.in_ok-line-in-None.ensures.ends;
+        bytes = c.in_ok-line-in-None.ensures.writes ∙ c.as_slice-bad.ensures;
+      };
     })
 
 pub returns-then-suits : goal.returns-then-suits
@@ -43,8 +46,8 @@ returns-then-suits c =
       sections = c.in-Some.sections;
       is_strategy = is_strategy;
       suits = suits;
-      ends_as = c.in_ok-reported-in-Some.ensures.ends ∙ ap (verdict_of c.args.tree.now) same;
+      status = c.in_ok-reported-in-Some.ensures.ends ∙ ap (verdict_of c.args.tree.now) same;
       equilibrium = subst (λ (s : List Section). (c.in_ok-reported-in-Some.field-0.status ≡ Done) ↔ IsEquilibrium c.args.tree.now (choices_of s)) same
           c.in_ok-reported-in-Some.ensures.equilibrium;
-      writes = c.in_ok-reported-in-Some.ensures.writes ∙ ap (λ s. report c.args.tree.now (choices_of s)) same;
+      bytes = c.in_ok-reported-in-Some.ensures.writes ∙ ap (λ s. report c.args.tree.now (choices_of s)) same;
     })

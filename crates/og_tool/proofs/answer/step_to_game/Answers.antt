@@ -1,4 +1,4 @@
-use Rattle.std.proofs.Common.{ℕ, List, Option, None, subst, inl, ◌∙◌}
+use Rattle.std.proofs.Common.{ℕ, List, Option, None, subst, inr, ◌∙◌}
 use Rattle.og_small.specs.declared.tree.SmallGame.{SmallGame}
 use Rattle.og_tool.specs.declared.fetch.Fetched.{Fetched}
 use Rattle.og_tool.specs.Fetching.{Fetches}
@@ -7,18 +7,18 @@ use Rattle.og_tool.proofs.answer.step_to_game.Goals as goal
 
 pub returns-in-Text-clause-steps : goal.returns-in-Text-clause-steps
 returns-in-Text-clause-steps g c =
-    let fetched = subst (λ (f : Fetched). Fetches c.args.file.now (g.F.Files.held c.args.files.now c.args.file.now)
-    (g.F.Files.faults c.args.files.now) (g.F.Files.faults c.fetch.new.files) f) c.in-Text.is c.in_ok-text.ensures.fetches in
+    let fetched = subst (λ (f : Fetched). Fetches c.args.file.now (g.F.Files.state c.args.files.now) (g.F.Files.state c.fetch.new.files) f)
+    c.in-Text.is c.in_ok-text.ensures.fetches in
     let none = subst (λ (o : Option SmallGame). ReadsGame c.as_slice.result.now o) c.in-None.is c.in_ok-tree-in-Text.ensures in
-    inl (
-      fetched.0,
-      (
-        c.in-Text.text.items,
-        fetched.1,
-        record {
-          cause = subst (λ (text : List ℕ). ReadsGame text None) c.as_slice.ensures.value none;
-          ends_as = c.in_ok-line-in-None.ensures.ends;
-          writes = c.in_ok-line-in-None.ensures.writes ∙ c.as_slice-bad.ensures;
-        },
-      ),
-    )
+    inr (record {
+      reads = fetched.0;
+      game = c.in-Text.text.items;
+      game_held = fetched.1;
+      refuses = record {
+        cause = subst (λ (text : List ℕ). ReadsGame text None) c.as_slice.ensures.value none;
+        refusal = record {
+          status = c.in_ok-line-in-None.ensures.ends;
+          bytes = c.in_ok-line-in-None.ensures.writes ∙ c.as_slice-bad.ensures;
+        };
+      };
+    })

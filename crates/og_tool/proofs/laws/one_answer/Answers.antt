@@ -1,6 +1,6 @@
-use Rattle.og_tool.proofs.Single.{one_answer_of}
+use Rattle.og_tool.proofs.OneAnswer.{one_answer_of}
 use Rattle.og_tool.proofs.laws.one_answer.Goals as goal
 
 pub returns : goal.returns
-returns c game strategy ends other_ends bytes other_bytes =
-    one_answer_of c.one_small_game.ensures c.one_small_strategy.ensures game strategy ends other_ends bytes other_bytes
+returns c game strategy one other =
+    one_answer_of c.one_small_game.ensures c.one_small_strategy.ensures game strategy one other

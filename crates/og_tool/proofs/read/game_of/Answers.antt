@@ -4,7 +4,7 @@ use Rattle.og_small.specs.declared.tree.SmallGame.{SmallGame}
 use Rattle.og_small.specs.Rules.{is_accepted}
 use Rattle.og_read.specs.Spelled.{FindsGame, SpellsGame}
 use Rattle.og_tool.specs.Texts.{IsPlain, ReadsPlain}
-use Rattle.og_tool.proofs.Trees.{unspelled_game, unaccepted_game}
+use Rattle.og_tool.proofs.OneTree.{unspelled_game, unaccepted_game}
 use Rattle.og_tool.proofs.read.game_of.Goals as goal
 
 pub returns-in-Some-2 : goal.returns-in-Some-2

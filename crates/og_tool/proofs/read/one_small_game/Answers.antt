@@ -1,4 +1,4 @@
-use Rattle.og_tool.proofs.Trees.{same_game}
+use Rattle.og_tool.proofs.OneTree.{same_game}
 use Rattle.og_tool.proofs.read.one_small_game.Goals as goal
 
 pub returns : goal.returns

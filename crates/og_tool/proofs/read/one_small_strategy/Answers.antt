@@ -1,4 +1,4 @@
-use Rattle.og_tool.proofs.Trees.{same_strategy}
+use Rattle.og_tool.proofs.OneTree.{same_strategy}
 use Rattle.og_tool.proofs.read.one_small_strategy.Goals as goal
 
 pub returns : goal.returns

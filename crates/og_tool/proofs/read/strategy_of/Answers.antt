@@ -3,7 +3,7 @@ use Rattle.og_lex.specs.declared.token.Token.{Token}
 use Rattle.og_small.specs.declared.tree.Section.{Section}
 use Rattle.og_read.specs.Spelled.{FindsStrategy, SpellsStrategy}
 use Rattle.og_tool.specs.Texts.{IsPlain, ReadsPlain}
-use Rattle.og_tool.proofs.Trees.{unspelled_strategy}
+use Rattle.og_tool.proofs.OneTree.{unspelled_strategy}
 use Rattle.og_tool.proofs.read.strategy_of.Goals as goal
 
 pub returns : goal.returns
