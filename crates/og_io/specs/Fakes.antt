@@ -87,7 +87,9 @@ Counts before now (Err put.Memory) = now ≡ before
 
 -- What a put into memory answers, and why.
 abbrev pub Takes : Tape → Tape → List ℕ → Result (Unit {0}) PutFault → Type 0
-Takes old new bytes (Ok _) = (fails_after old.failing (next_call old.calls) ≡ None) × (new.written ≡ old.written ++ bytes)
+Takes old new bytes (Ok _) =
+    (fails_after old.failing (next_call old.calls) ≡ None) × (new.written ≡ old.written ++ bytes)
 Takes old new bytes (Err put.Failed) =
-    (after : ℕ) × (fails_after old.failing (next_call old.calls) ≡ Some after) × (new.written ≡ old.written ++ take after bytes)
+    (after : ℕ) × (fails_after old.failing (next_call old.calls) ≡ Some after)
+    × (new.written ≡ old.written ++ take after bytes)
 Takes old new bytes (Err put.Memory) = (new.written ≡ old.written) × (old.room < length bytes)

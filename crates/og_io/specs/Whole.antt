@@ -13,14 +13,16 @@ use Rattle.og_io.specs.Outside.{Reads}
 -- The fault is want of memory where the host says so, and else a failure.
 abbrev pub IsFaultOf : Error → LoadFault → Type 0
 IsFaultOf error fault =
-    ((error_kind error ≡ OutOfMemory) × (fault ≡ load.Memory)) ⊎ ((error_kind error ≢ OutOfMemory) × (fault ≡ load.Failed))
+    ((error_kind error ≡ OutOfMemory) × (fault ≡ load.Memory))
+    ⊎ ((error_kind error ≢ OutOfMemory) × (fault ≡ load.Failed))
 
 -- The refusal that an error gives.
 abbrev pub Refuses : Error → Result (Vec ℕ Global) LoadFault → Type 0
 Refuses error result = (fault : LoadFault) × (result ≡ Err fault) × IsFaultOf error fault
 
 -- A reader that was opened is read to its end, and one that wasn't is refused by its error.
-abbrev pub ReadsOpened : {R : Type 0} → (R → Option (List ℕ)) → Result R Error → ℕ → Result (Vec ℕ Global) LoadFault → Type 0
+abbrev pub ReadsOpened : {R : Type 0} → (R → Option (List ℕ)) → Result R Error → ℕ
+    → Result (Vec ℕ Global) LoadFault → Type 0
 ReadsOpened remaining (Ok reader) cap result = Reads (remaining reader) cap result
 ReadsOpened remaining (Err error) cap result = Refuses error result
 
@@ -38,4 +40,5 @@ Writes bytes before after (Err taken) = (taken ≤ length bytes) × known.Append
 -- A writer took a front of a piece, or it failed and took nothing.
 abbrev pub WritesPiece : List ℕ → Option (List ℕ) → Option (List ℕ) → Option ℕ → Type 0
 WritesPiece piece before after result =
-    MatchOption result (known.Keeps before after) (λ count. (count ≤ length piece) × known.Appends before after (take count piece))
+    MatchOption result (known.Keeps before after)
+    (λ count. (count ≤ length piece) × known.Appends before after (take count piece))

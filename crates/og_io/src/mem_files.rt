@@ -24,7 +24,13 @@ impl Model for MemFiles {
 
     ghost Value = { Store };
 
-    ghost view = { λ m. record { files = m.files; failing = m.failing; calls = m.calls; loaded = m.log.loaded; failed = m.log.failed } };
+    ghost view = { λ m. record {
+      files = m.files;
+      failing = m.failing;
+      calls = m.calls;
+      loaded = m.log.loaded;
+      failed = m.log.failed;
+    } };
 }
 
 impl MemFiles {
@@ -45,7 +51,8 @@ impl MemFiles {
     pub fn add(&mut self, alloc: Global, name: &str, bytes: &[u8]) -> Result<(), AllocError>
         ensures ok { OnOk result (self.new ≡ record self.old { files = self.old.files ++ (name.now, bytes.now) ∷ [] }) }
         ensures held { OnOk result (bytes_under self.new.files name.now ≡ Some bytes.now) }
-        ensures others { OnOk result ((other : List ℕ) → other ≢ name.now → bytes_under self.new.files other ≡ bytes_under self.old.files other) }
+        ensures others { OnOk result ((other : List ℕ) → other ≢ name.now
+            → bytes_under self.new.files other ≡ bytes_under self.old.files other) }
         ensures refused { OnErr result (self.new ≡ self.old) }
     {
         let name = Text::from(alloc, name)?;
@@ -58,7 +65,8 @@ impl MemFiles {
     pub fn fail(&mut self, call: u32) -> Result<(), AllocError>
         ensures ok { OnOk result (self.new ≡ record self.old { failing = self.old.failing ++ call ∷ [] }) }
         ensures told { OnOk result (is_told self.new.failing call ≡ true) }
-        ensures others { OnOk result ((other : ℕ) → other ≢ call → is_told self.new.failing other ≡ is_told self.old.failing other) }
+        ensures others { OnOk result ((other : ℕ) → other ≢ call
+            → is_told self.new.failing other ≡ is_told self.old.failing other) }
         ensures refused { OnErr result (self.new ≡ self.old) }
     {
         self.failing.add(call)
@@ -119,7 +127,8 @@ impl Files for MemFiles {
         ensures number { self.new.calls ≡ next_call self.old.calls }
         ensures loaded { NotesLoad name.now self.old.loaded self.new.loaded result }
         ensures failed { NotesFault name.now self.old.failed self.new.failed result }
-        ensures answers { Answers (is_told self.old.failing self.new.calls) (bytes_under self.old.files name.now) cap result }
+        ensures answers { Answers (is_told self.old.failing self.new.calls)
+            (bytes_under self.old.files name.now) cap result }
     {
         self.calls = self.calls.saturating_add(1);
         if self.log.begin(alloc, name).is_err() {

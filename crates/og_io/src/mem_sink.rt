@@ -22,7 +22,13 @@ impl Model for MemSink {
 
     ghost Value = { Tape };
 
-    ghost view = { λ m. record { written = m.written.items; room = vec_capacity m.written - vec_len m.written; failing = m.failing; calls = m.calls; faults = m.faults } };
+    ghost view = { λ m. record {
+      written = m.written.items;
+      room = vec_capacity m.written - vec_len m.written;
+      failing = m.failing;
+      calls = m.calls;
+      faults = m.faults;
+    } };
 }
 
 impl MemSink {
@@ -59,7 +65,8 @@ impl MemSink {
     pub fn fail(&mut self, call: u32, after: usize) -> Result<(), AllocError>
         ensures ok { OnOk result (self.new ≡ record self.old { failing = self.old.failing ++ (call, after) ∷ [] }) }
         ensures told { OnOk result (fails_after self.new.failing call ≡ Some after) }
-        ensures others { OnOk result ((other : ℕ) → other ≢ call → fails_after self.new.failing other ≡ fails_after self.old.failing other) }
+        ensures others { OnOk result ((other : ℕ) → other ≢ call
+            → fails_after self.new.failing other ≡ fails_after self.old.failing other) }
         ensures refused { OnErr result (self.new ≡ self.old) }
     {
         self.failing.add((call, after))

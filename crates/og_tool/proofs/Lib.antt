@@ -3,3 +3,4 @@ pub mod TokenOrder
 pub mod PlainTexts
 pub mod OneTree
 pub mod OneAnswer
+pub mod OneAnswerToWords

@@ -12,7 +12,7 @@ use Rattle.og_tool.specs.Answer.{Answers, AnswersStrategy, IsRefusal, Reports, v
 same_answer : (one other : Answer) → one.status ≡ other.status → one.bytes ≡ other.bytes → one ≡ other
 same_answer one other status bytes = λ i. record { status = status i; bytes = bytes i }
 
-same_refusal : (ends : Status) (why : List ℕ) (one other : Answer) → IsRefusal ends why one → IsRefusal ends why other → one ≡ other
+pub same_refusal : (ends : Status) (why : List ℕ) (one other : Answer) → IsRefusal ends why one → IsRefusal ends why other → one ≡ other
 same_refusal ends why one other a b = same_answer one other (a.status ∙ sym b.status) (a.bytes ∙ sym b.bytes)
 
 module _ (same_game : (text : List ℕ) (one other : SmallGame) → IsGame text one → IsGame text other → one ≡ other)

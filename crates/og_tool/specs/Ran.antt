@@ -1,5 +1,5 @@
 -- What a run does: the theorem of the program.
-use Rattle.std.specs.Prelude.{◌≡◌, ◌⊎◌, ℕ, List, [], ◌∷◌, Option, Some, None, codes}
+use Rattle.std.specs.Prelude.{◌≡◌, ◌⊎◌, ℕ, List, [], ◌∷◌, Option, Some, None, IsSome, codes, ⊤}
 use Rattle.og_io.specs.Outside.{FilesState, SinkState, GrowsBy, IsUnmoved, OnlyLoads, TakesAll, TakesFront, TakesNone}
 use Rattle.og_small.specs.declared.tree.SmallGame.{SmallGame}
 use Rattle.og_tool.specs.declared.status.Status.{Status}
@@ -73,6 +73,11 @@ AnswersWords (Some command) before after answer =
     ⊎ MissesStrategy command before after answer
     ⊎ JudgesBoth command before after answer
 
+-- The texts that a command names are told.
+abbrev pub TellsTexts : Option Command → FilesState → Type 0
+TellsTexts None files = ⊤
+TellsTexts (Some command) files = IsSome (files.held command.game) × IsSome (files.held command.strategy)
+
 -- ---- what is written
 
 -- The answer is written whole, by one put.
@@ -101,4 +106,6 @@ pub record RunsOut (before after : Outside) (status : Status) : Type 0 where
 -- want of memory, and ends with the status that says so.
 pub record Ran (words : List (List ℕ)) (before after : Outside) (status : Status) : Type 0 where
   pub files : OnlyLoads (files_of (command_of words)) before.files after.files
-  pub out : WritesAnswer words before after status ⊎ FailsToWrite words before after status ⊎ RunsOut before after status
+  pub out : WritesAnswer words before after status
+      ⊎ FailsToWrite words before after status
+      ⊎ RunsOut before after status

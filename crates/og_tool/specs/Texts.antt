@@ -51,4 +51,5 @@ abbrev pub ReadsGame : List ℕ → Option SmallGame → Type 0
 ReadsGame text found = MatchOption found ((tree : SmallGame) → IsGame text tree → ⊥) (IsGame text)
 
 abbrev pub ReadsStrategy : List ℕ → Option (List Section) → Type 0
-ReadsStrategy text found = MatchOption found ((sections : List Section) → IsStrategy text sections → ⊥) (IsStrategy text)
+ReadsStrategy text found =
+    MatchOption found ((sections : List Section) → IsStrategy text sections → ⊥) (IsStrategy text)

@@ -60,7 +60,8 @@ fn step_to_game<F: Files>(alloc: Global, file: &str, files: &mut F) -> Result<Ga
 /// The report on the game where the sections are played.
 fn reported(alloc: Global, tree: &SmallGame, sections: &[Section]) -> Result<Answer, AllocError>
     ensures ends { IfOk result (λ a. a.status ≡ verdict_of tree.now sections.now) }
-    ensures equilibrium { IfOk result (λ a. (a.status ≡ Status.Done) ↔ IsEquilibrium tree.now (choices_of sections.now)) }
+    ensures equilibrium { IfOk result (λ a.
+        (a.status ≡ Status.Done) ↔ IsEquilibrium tree.now (choices_of sections.now)) }
     ensures writes { IfOk result (λ a. a.bytes ≡ report tree.now (choices_of sections.now)) }
 {
     let report = report_on(alloc, tree, sections)?;

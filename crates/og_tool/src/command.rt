@@ -21,7 +21,8 @@ fn is_file_name(word: &str) -> bool
 /// The command that the words are, if they are one.
 pub(crate) fn command_of(words: &[String]) -> Option<Command<'_>>
     ensures { MatchOption result (command_of (map string_bytes words.now) ≡ None)
-        (λ c. command_of (map string_bytes words.now) ≡ Some (record { game = c.game.now; strategy = c.strategy.now })) }
+        (λ c. command_of (map string_bytes words.now)
+        ≡ Some (record { game = c.game.now; strategy = c.strategy.now })) }
 {
     match words {
         [verb, game, strategy] => {

@@ -10,7 +10,7 @@ mod read;
 mod status;
 mod top;
 
-pub use laws::one_answer;
+pub use laws::{one_answer, one_answer_to_words};
 pub use read::{one_small_game, one_small_strategy};
 pub use status::Status;
 pub use top::run;
