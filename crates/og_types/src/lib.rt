@@ -17,6 +17,3 @@ pub use rank::joint_rank;
 pub use shown::show;
 pub use ty::{Ty, all_bounds_fit, all_fit, all_hold, copy_types, join_all};
 pub use value::{Value, copy_values};
-
-#[cfg(test)]
-mod tests;

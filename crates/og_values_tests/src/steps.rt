@@ -1,8 +1,9 @@
 ghost use Rattle.std.specs.Prelude.{◌≡◌, ◌<◌};
 
-use super::*;
+use og_steps::Steps;
 use std::marker::Brand;
 use std::mem;
+use std::sync::ledger::{Blank, Ledger};
 
 /// Three steps over a ledger of their own, and how many bytes they take.
 fn three<L: Ledger>(blank: Blank) -> usize

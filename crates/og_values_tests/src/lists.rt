@@ -1,6 +1,6 @@
 ghost use Rattle.std.specs.Prelude.{◌≡◌, IfOk};
 
-use super::*;
+use og_list::{Boxed, List, Text};
 use std::alloc::{AllocError, Global};
 use std::marker::Model;
 use std::test::Fail;
@@ -78,8 +78,8 @@ struct Expr {
 
 impl Model for Expr {
     ghost use Rattle.std.specs.Coded.{codes};
-    ghost use Rattle.og_list.specs.contracts.tests.Term as term;
-    ghost use Rattle.og_list.specs.declared.tests.Term.{Term, size-Term, roll-Term};
+    ghost use Rattle.og_values_tests.specs.contracts.lists.Term as term;
+    ghost use Rattle.og_values_tests.specs.declared.lists.Term.{Term, size-Term, roll-Term};
 
     ghost Value = { Term };
 
@@ -91,8 +91,8 @@ impl Model for Expr {
 
     ghost use Rattle.std.proofs.Common.{arith};
     ghost use Rattle.og_list.specs.Weights.{weight_more};
-    ghost use Rattle.og_list.specs.declared.tests.Expr.TheShapes.{weighed-Expr-node};
-    ghost use Rattle.og_list.specs.declared.tests.Term.TheViews.{size_roll-Term};
+    ghost use Rattle.og_values_tests.specs.declared.lists.Expr.TheShapes.{weighed-Expr-node};
+    ghost use Rattle.og_values_tests.specs.declared.lists.Term.TheViews.{size_roll-Term};
 
     ghost size_decreases = { λ a h. omega (arith, size_roll-Term (record { node = a.node }), weight_more weighed-Expr-node size-Term a.node) };
 }
@@ -152,21 +152,28 @@ fn copies_of_expressions(rt: HostRuntime) -> Result<(), Fail> {
 }
 
 #[test]
-fn lists_and_texts(rt: HostRuntime) -> Result<(), Fail> {
+fn items_of_a_list(rt: HostRuntime) -> Result<(), Fail> {
     let alloc = rt.alloc();
     let mut list = List::new(alloc);
     assert!(rt; list.is_empty());
     assert_eq!(rt; list.push(7u8), Ok(()));
     assert_eq!(rt; list.len(), 1);
-    assert_eq!(rt; list.get(0).copied(), Some(7));
-    assert_eq!(rt; list.get(1).copied(), None);
+    for (at, want) in [(0, Some(7)), (1, None)] {
+        assert_eq!(rt; list.get(at).copied(), want);
+    }
+    let boxed = Boxed::new(alloc, 5u8).ok().ok_or("memory")?;
+    assert_eq!(rt; boxed.into_inner(), 5);
+    Ok(())
+}
+
+#[test]
+fn text_grows(rt: HostRuntime) -> Result<(), Fail> {
+    let alloc = rt.alloc();
     let mut text = Text::from(alloc, "a")?;
     assert_eq!(rt; text.as_str(), "a");
     text.push_str("é")?;
     assert_eq!(rt; text.copy(alloc)?.as_str(), "aé");
     assert_eq!(rt; text.len(), 3);
-    let boxed = Boxed::new(alloc, 5u8).ok().ok_or("memory")?;
-    assert_eq!(rt; boxed.into_inner(), 5);
     Ok(())
 }
 
@@ -176,16 +183,31 @@ fn same<T: Eq>(first: &T, second: &T) -> bool {
 }
 
 #[test]
-fn equal_where_they_hold_the_same(rt: HostRuntime) -> Result<(), Fail> {
+fn equal_lists_hold_the_same(rt: HostRuntime) -> Result<(), Fail> {
     let alloc = rt.alloc();
     let list = List::from_slice(alloc, &[1u8, 2])?;
-    assert!(rt; same(&list, &List::from_slice(alloc, &[1, 2])?));
-    assert!(rt; !same(&list, &List::from_slice(alloc, &[1])?));
-    assert!(rt; !same(&list, &List::from_slice(alloc, &[2, 1])?));
+    let rows: [(&[u8], bool); 3] = [(&[1, 2], true), (&[1], false), (&[2, 1], false)];
+    for (items, want) in rows {
+        let other = List::from_slice(alloc, items)?;
+        assert_eq!(rt; same(&list, &other), want);
+    }
+    Ok(())
+}
+
+#[test]
+fn equal_boxes_hold_the_same(rt: HostRuntime) -> Result<(), Fail> {
+    let alloc = rt.alloc();
+    let list = List::from_slice(alloc, &[1u8, 2])?;
     let boxed = Boxed::new(alloc, list).ok().ok_or("memory")?;
     let other = Boxed::new(alloc, List::new(alloc)).ok().ok_or("memory")?;
     assert!(rt; same(&boxed, &boxed));
     assert!(rt; !same(&boxed, &other));
+    Ok(())
+}
+
+#[test]
+fn equal_texts_have_the_same_bytes(rt: HostRuntime) -> Result<(), Fail> {
+    let alloc = rt.alloc();
     let text = Text::from(alloc, "ab")?;
     assert!(rt; same(&text, &text.copy(alloc)?));
     assert!(rt; !same(&text, &Text::from(alloc, "a")?));
