@@ -14,7 +14,7 @@ use Rattle.og_types.specs.declared.ty.Ty.TheVariants as ty
 use Rattle.og_types.specs.Ty.{is_finite}
 use Rattle.og_types.specs.Values.{values_of, joint_values_of, counted, span, IsSmall, AreSmall}
 use Rattle.og_types.specs.declared.value.Value.TheVariants as value
-use Rattle.og_types.proofs.Lists.{drop_at}
+use Rattle.og_list.proofs.Rest.{drop_at}
 use Rattle.og_types.proofs.TyLevels.{is_finite_tuple, values_tuple, is_finite_enum, values_enum, is_finite_range, values_range}
 use Rattle.og_types.proofs.Products.{length_product}
 

@@ -6,9 +6,9 @@ use Rattle.std.specs.Int.{int_gap}
 use Rattle.std.specs.Ordering.{int_eq}
 use Rattle.std.proofs.lemmas.Int.{ints}
 use Rattle.std.proofs.lemmas.Bool.Decides.{nat_tests, Decides-int_eq}
+use Rattle.std.proofs.lemmas.Bool.{and_parts}
 use Rattle.og_frac.specs.Fraction.{Fraction}
 use Rattle.og_types.specs.Ty.{is_between}
-use Rattle.og_types.specs.ValueEquality.{and_true}
 use Rattle.og_types.specs.Values.{span}
 
 -- the greater number is the lesser and the gap
@@ -81,8 +81,8 @@ pub record BetweenGap (low high : ℤ) (q : Fraction) : Type 0 where
 
 pub between_gap : (low high : ℤ) (q : Fraction) → is_between low high q ≡ true → BetweenGap low high q
 between_gap low high q e =
-    let bounds = (and_true (q.denominator == 1) (int_le low q.numerator && int_le q.numerator high) e).1 in
-    let both = and_true (int_le low q.numerator) (int_le q.numerator high) bounds in
+    let bounds = (and_parts (q.denominator == 1) (int_le low q.numerator && int_le q.numerator high) e).1 in
+    let both = and_parts (int_le low q.numerator) (int_le q.numerator high) bounds in
     let above : low ≤ℤ q.numerator = le_true low q.numerator both.0 in
     let test : nat_lt (int_gap low q.numerator) (span low high) ≡ true = lt_span low high q.numerator above ∙ both.1 in
     record { above = above; within = ltb-true (int_gap low q.numerator) (span low high) test }

@@ -3,15 +3,15 @@ use Rattle.std.proofs.Common.{◌≡◌, ◌≢◌, ℕ, ℤ, pos, zero, suc, if
 use Rattle.std.specs.Prelude.{Some, None, Option, slice_get, ◌+ℤ◌}
 use Rattle.std.specs.Option.{option_map}
 use Rattle.std.specs.List.{list_all}
+use Rattle.std.proofs.lemmas.Bool.{and_parts}
 use Rattle.og_types.specs.declared.value.Value.{Value}
 use Rattle.og_types.specs.declared.value.Value.TheVariants as value
 use Rattle.og_types.specs.declared.ty.Ty.{Ty}
 use Rattle.og_types.specs.declared.ty.Ty.TheVariants as ty
 use Rattle.og_types.specs.Ty.{is_finite, bounds_fit}
 use Rattle.og_types.specs.Value.{same}
-use Rattle.og_types.specs.ValueEquality.{and_true}
 use Rattle.og_types.specs.Values.{values_of, joint_values_of, counted, IsSmall, AreSmall, rank_of, joint_rank_of, place_of, span}
-use Rattle.og_types.proofs.Lists.{drop_at, drop_got}
+use Rattle.og_list.proofs.Rest.{drop_at, drop_got}
 use Rattle.og_types.proofs.Products.{length_product, place_product, together, place_shorter}
 use Rattle.og_types.proofs.TyLevels.{values_range, values_tuple, is_finite_tuple, bounds_fit_tuple}
 use Rattle.std.proofs.Math.Nat.{mul-div_cancel_left, mul-suc, suc-mul, zero-mul}
@@ -28,7 +28,7 @@ factors w (suc m) (suc r) e h = (omega arith, omega arith, omega (arith, mul-suc
 
 -- what all types from one on pass, that one and all after it pass
 pub all_at : (test : Ty → Bool) (ts : List Ty) (i : ℕ) (t : Ty) → i < length ts → t ≡ get_or ts i t → list_all test (drop i ts) ≡ true → (test t ≡ true) × (list_all test (drop (i + 1) ts) ≡ true)
-all_at test ts i t h p all = and_true (test t) (list_all test (drop (i + 1) ts)) ((λ j. list_all test (sym (drop_at ts i t h p) j)) ∙ all)
+all_at test ts i t h p all = and_parts (test t) (list_all test (drop (i + 1) ts)) ((λ j. list_all test (sym (drop_at ts i t h p) j)) ∙ all)
 
 -- what is known of a type among others, whose lists weigh this much from it on
 pub record Part (ts : List Ty) (i : ℕ) (t : Ty) (weight count : ℕ) : Type 0 where

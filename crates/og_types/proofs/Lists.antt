@@ -1,5 +1,5 @@
 -- Laws of lists that are compared place by place.
-use Rattle.std.proofs.Common.{◌≡◌, ℕ, suc, zero, ◌+◌, ◌<◌, ◌≤◌, Bool, true, false, ◌&&◌, List, [], ◌∷◌, length, get_or, drop, map, append_assoc, ◌++◌, ◌≢◌, inl, inr, ap, sym, ◌∙◌, refl, arith, add-one}
+use Rattle.std.proofs.Common.{◌≡◌, ℕ, ◌+◌, ◌<◌, ◌≤◌, Bool, true, false, ◌&&◌, List, [], ◌∷◌, length, get_or, drop, map, append_assoc, ◌++◌, ◌≢◌, inl, inr, ap, sym, ◌∙◌, refl, arith}
 use Rattle.std.specs.Prelude.{slice_get, Some, None, Option, option_and_then}
 use Rattle.std.specs.Option.{option_map}
 use Rattle.std.specs.Cmp.{nat_cmp_is}
@@ -9,8 +9,9 @@ use Rattle.std.specs.Cmp.Lexicographic.{pointwise, slice_cmp}
 use Rattle.std.specs.declared.cmp.Ordering.{Ordering}
 use Rattle.std.specs.declared.cmp.Ordering.TheVariants.{Less, Equal, Greater}
 use Rattle.std.specs.Ordering.{ordering_then, is_ne, nat_cmp}
-use Rattle.std.proofs.Math.Seq.{drop-cons}
-use Rattle.std.proofs.lemmas.Option.{slice_get_within, get_or_from_slice_get, slice_get_past, slice_get_cases}
+use Rattle.std.proofs.lemmas.List.{drop_all}
+use Rattle.std.proofs.lemmas.Option.{slice_get_cases}
+use Rattle.og_list.proofs.Rest.{drop_at, drop_got}
 
 -- a test that is the same as another at each part
 pub pointwise-map : {A B C : Type 0} (f : A → B) (E : B → C → Bool) → (xs : List A) (ys : List C) → pointwise E (map f xs) ys ≡ pointwise (λ x y. E (f x) y) xs ys
@@ -18,12 +19,6 @@ pointwise-map f E [] [] = refl
 pointwise-map f E [] (y ∷ ys) = refl
 pointwise-map f E (x ∷ xs) [] = refl
 pointwise-map f E (x ∷ xs) (y ∷ ys) = ap (λ b. E (f x) y && b) (pointwise-map f E xs ys)
-
-pub drop_at : {A : Type 0} (xs : List A) (i : ℕ) (x : A) → i < length xs → x ≡ get_or xs i x → drop i xs ≡ x ∷ drop (i + 1) xs
-drop_at xs i x h e = rw (add-one, drop-cons xs i x h) (ap (λ y. y ∷ drop (suc i) xs) (sym e))
-
-pub drop_got : {A : Type 0} (xs : List A) (i : ℕ) (x : A) → slice_get xs i ≡ Some x → drop i xs ≡ x ∷ drop (i + 1) xs
-drop_got xs i x e = drop_at xs i x (slice_get_within xs i x e) (sym (get_or_from_slice_get xs i x x e))
 
 -- the test at a place, and after it
 pointwise_at : {A B : Type 0} (E : A → B → Bool) (xs : List A) (ys : List B) (i : ℕ) (x : A) (y : B) → i < length xs → x ≡ get_or xs i x → slice_get ys i ≡ Some y → pointwise E (drop i xs) (drop i ys) ≡ E x y && pointwise E (drop (i + 1) xs) (drop (i + 1) ys)
@@ -62,26 +57,17 @@ slice_cmp_goes R xs ys i x y h p q r e f = sym (slice_cmp_at R xs ys i x y h p q
 pub slice_cmp_stops : {A B : Type 0} (R : A → B → Ordering) (xs : List A) (ys : List B) (i : ℕ) (x : A) (y : B) → i < length xs → x ≡ get_or xs i x → slice_get ys i ≡ Some y → (r : Ordering) → r ≡ R x y → is_ne r ≡ true → r ≡ slice_cmp R (drop i xs) (drop i ys)
 slice_cmp_stops R xs ys i x y h p q r e f = e ∙ then_found (R x y) _ (ap is_ne (sym e) ∙ f) ∙ sym (slice_cmp_at R xs ys i x y h p q)
 
-drop_past : {A : Type 0} (xs : List A) (i : ℕ) → slice_get xs i ≡ None → drop i xs ≡ []
-drop_past [] zero h = refl
-drop_past [] (suc i) h = refl
-drop_past (x ∷ xs) zero h = absurd (cc)
-drop_past (x ∷ xs) (suc i) h = drop_past xs i h
-
-drop_end : {A : Type 0} (xs : List A) (i : ℕ) → length xs ≤ i → drop i xs ≡ []
-drop_end xs i h = drop_past xs i (slice_get_past xs i h)
-
 -- the first list ends first, or both end
 pub slice_cmp_ended : {A B : Type 0} (R : A → B → Ordering) (xs : List A) (ys : List B) (i : ℕ) → length xs ≡ i → i ≤ length ys → nat_cmp (length xs) (length ys) ≡ slice_cmp R (drop i xs) (drop i ys)
 slice_cmp_ended {A} {B} R xs ys i h k =
-    let none : drop i xs ≡ [] = drop_end xs i (omega arith) in
+    let none : drop i xs ≡ [] = drop_all i xs (omega arith) in
     elim (slice_get_cases ys i).1 [
       | inl at ↦
           let shorter : Less ≡ nat_cmp (length xs) (length ys) = nat_cmp_is (length xs) (length ys) Less (omega (arith, at.1)) in
           sym shorter ∙ (λ j. slice_cmp R (sym none j) (sym (drop_got ys i at.0 at.2) j))
       | inr past ↦
           let as_long : Equal ≡ nat_cmp (length xs) (length ys) = nat_cmp_is (length xs) (length ys) Equal (omega (arith, past.0)) in
-          sym as_long ∙ (λ j. slice_cmp R (sym none j) (sym (drop_end ys i past.0) j))
+          sym as_long ∙ (λ j. slice_cmp R (sym none j) (sym (drop_all i ys past.0) j))
     ]
 
 -- how the joins go on, and where there is none

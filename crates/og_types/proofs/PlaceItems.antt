@@ -15,7 +15,7 @@ use Rattle.og_types.specs.Values.{values_of, joint_values_of, span}
 use Rattle.std.proofs.lemmas.Nat.{div-add-mod'}
 use Rattle.std.proofs.Math.Nat.{div-lt_iff_lt-mul}
 use Rattle.og_types.proofs.Gaps.{span_within, span_past}
-use Rattle.og_types.proofs.Lists.{drop_at}
+use Rattle.og_list.proofs.Rest.{drop_at}
 use Rattle.og_types.proofs.TyLevels.{values_enum, values_bool, values_range, values_tuple}
 use Rattle.og_types.proofs.Products.{product_at}
 

@@ -15,6 +15,7 @@ use Rattle.std.proofs.lemmas.Int.{ints}
 use Rattle.std.proofs.lemmas.List.FromFn.{length-map-range_with_len}
 use Rattle.std.proofs.lemmas.Option.{slice_get_within, slice_get-map, slice_get-get_or, get_or_from_slice_get}
 use Rattle.std.proofs.lemmas.Cmp.{nat_cmp_total, tied_itself}
+use Rattle.std.proofs.lemmas.Bool.{and_parts}
 use Rattle.og_frac.specs.Fraction as fraction
 use Rattle.og_frac.specs.Fraction.{Fraction, whole, over_positive}
 use Rattle.og_frac.specs.Orders.{order_less, order_equal, order_reversed}
@@ -34,7 +35,7 @@ use Rattle.og_types.specs.Value.{same, order}
 use Rattle.og_types.specs.ValueOrder.{order_cases, order_flags, order_numbers}
 use Rattle.og_types.proofs.FitsLaws.{holds_at}
 use Rattle.og_types.proofs.ValueLevels.{order_tuples}
-use Rattle.og_types.specs.ValueEquality.{same_equal, same_decides, and_true}
+use Rattle.og_types.specs.ValueEquality.{same_equal, same_decides}
 use Rattle.og_types.specs.Values.{values_of, joint_values_of, rank_of, joint_rank_of, place_of, span, IsSmall, AreSmall}
 use Rattle.og_types.proofs.TyLevels.{type_induction, values_enum, values_bool, values_range, values_tuple, values_number}
 use Rattle.og_types.proofs.Products.{product_from, place_product, place_shorter, mapped_from, together}
@@ -165,7 +166,7 @@ parts_there [] [] f = refl
 parts_there [] (v ∷ vs) f = refl
 parts_there (e ∷ es) [] f = ap is_some (place_shorter (values_of e.0) (joint_values_of (map (λ e. e.0) es)))
 parts_there (e ∷ es) (v ∷ vs) f =
-    let finite = and_true (is_finite e.0) (list_all (λ part. part) (map is_finite (map (λ e. e.0) es))) f in
+    let finite = and_parts (is_finite e.0) (list_all (λ part. part) (map is_finite (map (λ e. e.0) es))) f in
     ap is_some (place_product v vs (values_of e.0) (joint_values_of (map (λ e. e.0) es)))
     ∙ both_there (length (joint_values_of (map (λ e. e.0) es))) (rank_of e.0 v) (joint_rank_of (map (λ e. e.0) es) vs)
     ∙ (λ j. e.1 v finite.0 j && parts_there es vs finite.1 j)
@@ -294,7 +295,7 @@ joint_rank_there [] [] f = refl
 joint_rank_there [] (v ∷ vs) f = refl
 joint_rank_there (t ∷ ts) [] f = ap is_some (place_shorter (values_of t) (joint_values_of ts))
 joint_rank_there (t ∷ ts) (v ∷ vs) f =
-    let finite = and_true (is_finite t) (list_all is_finite ts) f in
+    let finite = and_parts (is_finite t) (list_all is_finite ts) f in
     ap is_some (place_product v vs (values_of t) (joint_values_of ts))
     ∙ both_there (length (joint_values_of ts)) (rank_of t v) (joint_rank_of ts vs) ∙ (λ j. rank_there t v finite.0 j && joint_rank_there ts vs finite.1 j)
 

@@ -93,8 +93,5 @@ values_number = fold_number (List Value) values_step
 pub is_finite_enum : (family cases : ℕ) → is_finite (ty.Enum family cases) ≡ true
 is_finite_enum family cases = fold_enum Bool is_finite_step family cases
 
-pub is_finite_bool : is_finite ty.Bool ≡ true
-is_finite_bool = fold_bool Bool is_finite_step
-
 pub is_finite_range : (low high : ℤ) → is_finite (ty.Range low high) ≡ true
 is_finite_range low high = fold_range Bool is_finite_step low high

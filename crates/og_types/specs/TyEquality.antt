@@ -5,7 +5,7 @@ use Rattle.std.specs.Prelude.{◌↔◌}
 use Rattle.std.specs.Ordering.{int_eq}
 use Rattle.std.specs.Cmp.Lexicographic.{pointwise}
 use Rattle.std.proofs.lemmas.Bool.Decides.{Decides-int_eq}
-use Rattle.og_types.specs.ValueEquality.{and_true, int_equal}
+use Rattle.std.proofs.lemmas.Bool.{and_parts}
 use Rattle.og_types.specs.declared.ty.Ty.{Ty}
 use Rattle.og_types.specs.declared.ty.Ty.TheOpen.{Ty-F}
 use Rattle.og_types.specs.declared.ty.Ty.TheOpen as one
@@ -25,17 +25,17 @@ parts_equal [] [] h = refl
 parts_equal [] (w ∷ ws) h = absurd (cc)
 parts_equal (e ∷ es) [] h = absurd (cc)
 parts_equal (e ∷ es) (w ∷ ws) h =
-    let both = and_true (same e.0 w) (pointwise (λ part other. part other) (map same (map (λ e. e.0) es)) ws) h in
+    let both = and_parts (same e.0 w) (pointwise (λ part other. part other) (map same (map (λ e. e.0) es)) ws) h in
     (λ i. e.1 w both.0 i ∷ parts_equal es ws both.1 i)
 
 levels_equal : (y : Ty-F ((v : Ty) × Claim v)) (z : Ty-F Ty) → same_step (map-Ty Ty (Ty → Bool) same (map-Ty ((v : Ty) × Claim v) Ty (λ e. e.0) y)) z ≡ true → map-Ty ((v : Ty) × Claim v) Ty (λ e. e.0) y ≡ z
 levels_equal (one.Enum family cases) (one.Enum other count) e =
-    let both = and_true (family == other) (cases == count) e in
+    let both = and_parts (family == other) (cases == count) e in
     (λ i. one.Enum (eqb-true family other both.0 i) (eqb-true cases count both.1 i))
 levels_equal one.Bool one.Bool e = refl
 levels_equal (one.Range low high) (one.Range from to) e =
-    let both = and_true (int_eq low from) (int_eq high to) e in
-    (λ i. one.Range (int_equal low from both.0 i) (int_equal high to both.1 i))
+    let both = and_parts (int_eq low from) (int_eq high to) e in
+    (λ i. one.Range ((Decides-int_eq low from).0 both.0 i) ((Decides-int_eq high to).0 both.1 i))
 levels_equal one.Number one.Number e = refl
 levels_equal (one.Tuple es) (one.Tuple ws) e = ap one.Tuple (parts_equal es ws e)
 levels_equal _ _ e = absurd (cc)

@@ -1,11 +1,11 @@
 -- Values that are found to be the same are equal. It stands here and not in proofs/ since the
 -- impls of PartialEq and Eq cite it.
-use Rattle.std.proofs.Common.{◌≡◌, ℤ, Bool, true, false, ◌&&◌, ◌==◌, List, [], ◌∷◌, map, ap, sym, subst, ◌∙◌, refl, arith, eq-eqb, eqb-true}
+use Rattle.std.proofs.Common.{◌≡◌, Bool, true, false, ◌&&◌, ◌==◌, List, [], ◌∷◌, map, ap, sym, subst, ◌∙◌, refl, eq-eqb, eqb-true}
 use Rattle.std.specs.Prelude.{◌↔◌}
 use Rattle.std.specs.Ordering.{int_eq}
 use Rattle.std.specs.Cmp.Lexicographic.{pointwise}
-use Rattle.std.proofs.lemmas.Int.{ints}
 use Rattle.std.proofs.lemmas.Bool.Decides.{Decides-int_eq}
+use Rattle.std.proofs.lemmas.Bool.{and_parts}
 use Rattle.og_frac.specs.Fraction.{Fraction}
 use Rattle.og_types.specs.declared.value.Value.{Value}
 use Rattle.og_types.specs.declared.value.Value.TheOpen.{Value-F}
@@ -13,10 +13,6 @@ use Rattle.og_types.specs.declared.value.Value.TheOpen as one
 use Rattle.og_types.specs.declared.value.Value.TheViews.{out-Value, roll-Value, roll-out-Value, out-roll-Value}
 use Rattle.og_types.specs.declared.value.Value.TheFolds.{fold-roll-Value, map-Value, ind-Value}
 use Rattle.og_types.specs.Value.{same, same_step, same_flag, same_fraction}
-
-pub and_true : (a b : Bool) → a && b ≡ true → (a ≡ true) × (b ≡ true)
-and_true true b e = (refl, e)
-and_true false b e = absurd (cc)
 
 pub same_at : (z : Value-F Value) (w : Value) → same (roll-Value z) w ≡ same_step (map-Value Value (Value → Bool) same z) (out-Value w)
 same_at z w = λ i. fold-roll-Value (Value → Bool) (λ v w. same_step v (out-Value w)) z i w
@@ -27,13 +23,10 @@ flags_equal true false e = absurd (cc)
 flags_equal false true e = absurd (cc)
 flags_equal false false e = refl
 
-pub int_equal : (x y : ℤ) → int_eq x y ≡ true → x ≡ y
-int_equal x y e = grind (arith, ints, Decides-int_eq x y, e)
-
 fractions_equal : (p q : Fraction) → same_fraction p q ≡ true → p ≡ q
 fractions_equal p q e =
-    let both = and_true (int_eq p.numerator q.numerator) (p.denominator == q.denominator) e in
-    (λ i. record { numerator = int_equal p.numerator q.numerator both.0 i; denominator = eqb-true p.denominator q.denominator both.1 i })
+    let both = and_parts (int_eq p.numerator q.numerator) (p.denominator == q.denominator) e in
+    (λ i. record { numerator = (Decides-int_eq p.numerator q.numerator).0 both.0 i; denominator = eqb-true p.denominator q.denominator both.1 i })
 
 -- the claim of a value, for all others
 abbrev Claim : Value → Type 0
@@ -44,12 +37,12 @@ parts_equal [] [] h = refl
 parts_equal [] (w ∷ ws) h = absurd (cc)
 parts_equal (e ∷ es) [] h = absurd (cc)
 parts_equal (e ∷ es) (w ∷ ws) h =
-    let both = and_true (same e.0 w) (pointwise (λ part other. part other) (map same (map (λ e. e.0) es)) ws) h in
+    let both = and_parts (same e.0 w) (pointwise (λ part other. part other) (map same (map (λ e. e.0) es)) ws) h in
     (λ i. e.1 w both.0 i ∷ parts_equal es ws both.1 i)
 
 levels_equal : (y : Value-F ((v : Value) × Claim v)) (z : Value-F Value) → same_step (map-Value Value (Value → Bool) same (map-Value ((v : Value) × Claim v) Value (λ e. e.0) y)) z ≡ true → map-Value ((v : Value) × Claim v) Value (λ e. e.0) y ≡ z
 levels_equal (one.Case family index) (one.Case other at) e =
-    let both = and_true (family == other) (index == at) e in
+    let both = and_parts (family == other) (index == at) e in
     (λ i. one.Case (eqb-true family other both.0 i) (eqb-true index at both.1 i))
 levels_equal (one.Flag a) (one.Flag b) e = ap one.Flag (flags_equal a b e)
 levels_equal (one.Number p) (one.Number q) e = ap one.Number (fractions_equal p q e)
