@@ -126,11 +126,11 @@ pub greatest_common_divisor-zero : (a : ℕ) → greatest_common_divisor a 0 ≡
 greatest_common_divisor-zero a = greatest_common_divisor_from a 0 a (IsGcd-from_zero a 0 refl)
 
 -- a step of Euclid's algorithm
-pub greatest_common_divisor-step : (a b : ℕ) → greatest_common_divisor b (a % b) ≡ greatest_common_divisor a b
-greatest_common_divisor-step a b = sym (greatest_common_divisor_from a b _ (IsGcd-from_mod a b _ (greatest_common_divisor_is b (a % b))))
+pub greatest_common_divisor_step : (a b : ℕ) → greatest_common_divisor b (a % b) ≡ greatest_common_divisor a b
+greatest_common_divisor_step a b = sym (greatest_common_divisor_from a b _ (IsGcd-from_mod a b _ (greatest_common_divisor_is b (a % b))))
 
-greatest_common_divisor-multiples : (k a b : ℕ) → greatest_common_divisor (k * a) (k * b) ≡ k * greatest_common_divisor a b
-greatest_common_divisor-multiples k a b =
+greatest_common_divisor_multiples : (k a b : ℕ) → greatest_common_divisor (k * a) (k * b) ≡ k * greatest_common_divisor a b
+greatest_common_divisor_multiples k a b =
     let f = found a b in
     greatest_common_divisor_from (k * a) (k * b) (k * f.number) (f.times k)
     ∙ ap (λ n. k * n) (sym (greatest_common_divisor_from a b f.number f.is))
@@ -139,14 +139,14 @@ pub greatest_common_divisor_positive : (a b : ℕ) → 0 < b → 0 < greatest_co
 greatest_common_divisor_positive a b h = let is = greatest_common_divisor_is a b in divisor_positive a b _ is.0 is.1 (omega arith)
 
 -- what is left of two numbers without their common divisor has none
-pub greatest_common_divisor-left : (a b : ℕ) → 0 < b → greatest_common_divisor (a / greatest_common_divisor a b) (b / greatest_common_divisor a b) ≡ 1
-greatest_common_divisor-left a b h =
+pub greatest_common_divisor_left : (a b : ℕ) → 0 < b → greatest_common_divisor (a / greatest_common_divisor a b) (b / greatest_common_divisor a b) ≡ 1
+greatest_common_divisor_left a b h =
     let g = greatest_common_divisor a b in
     let is = greatest_common_divisor_is a b in
     let some : 0 < g = greatest_common_divisor_positive a b h in
     let first : g * (a / g) ≡ a = mul-div_cancel' g is.0 in
     let second : g * (b / g) ≡ b = mul-div_cancel' g is.1 in
-    let times = greatest_common_divisor-multiples g (a / g) (b / g) in
+    let times = greatest_common_divisor_multiples g (a / g) (b / g) in
     let whole : greatest_common_divisor (g * (a / g)) (g * (b / g)) ≡ g = (λ i. greatest_common_divisor (first i) (second i)) in
     eq_of_mul-eq-mul_left g some _ _ (sym times ∙ whole ∙ sym (mul-one g))
 
@@ -154,7 +154,7 @@ greatest_common_divisor-left a b h =
 pub divides_other : (a b c : ℕ) → greatest_common_divisor a b ≡ 1 → b ∣ c * a → b ∣ c
 divides_other a b c apart h =
     let times = greatest_common_divisor_is (c * a) (c * b) in
-    let is : greatest_common_divisor (c * a) (c * b) ≡ c = greatest_common_divisor-multiples c a b ∙ ap (λ n. c * n) apart ∙ mul-one c in
+    let is : greatest_common_divisor (c * a) (c * b) ≡ c = greatest_common_divisor_multiples c a b ∙ ap (λ n. c * n) apart ∙ mul-one c in
     subst (λ n. b ∣ n) is (times.2 b h (dvd-mul_left b c))
 
-pub ruleset euclid = (greatest_common_divisor-zero, greatest_common_divisor-step)
+pub ruleset euclid = (greatest_common_divisor-zero, greatest_common_divisor_step)

@@ -157,7 +157,11 @@ fn terms(rt: &impl Abort, alloc: Global, parts: &[(u64, i64, u64)]) -> Vec<Term>
 
 /// The common denominator of a sum, its sum of sizes and its value, or that it passes. The sum over
 /// its own denominator is the value.
-fn summed(rt: &impl Abort, terms: &[Term], times: u64) -> Result<(u64, u128, i128), SumFault> {
+fn parts_of_sum(
+    rt: &impl Abort,
+    terms: &[Term],
+    times: u64,
+) -> Result<(u64, u128, i128), SumFault> {
     let sum = Sum::of(terms, times.max(1))?;
     assert_eq!(rt; Sum::part(terms, sum.common), sum.value);
     Ok((sum.common, sum.absolute, sum.value))
@@ -172,7 +176,7 @@ fn check(
     want: Result<(u64, u128, i128), SumFault>,
 ) {
     let made = terms(rt, alloc, parts);
-    assert_eq!(rt; summed(rt, made.as_slice(), times), want);
+    assert_eq!(rt; parts_of_sum(rt, made.as_slice(), times), want);
 }
 
 #[test]

@@ -90,7 +90,7 @@ impl Model for Expr {
     ghost size = { size-Term };
 
     ghost use Rattle.std.proofs.Common.{arith};
-    ghost use Rattle.og_list.specs.Weights.{weight_more};
+    ghost use Rattle.og_list.specs.laws.Weights.{weight_more};
     ghost use Rattle.og_values_tests.specs.declared.lists.Expr.TheShapes.{weighed-Expr-node};
     ghost use Rattle.og_values_tests.specs.declared.lists.Term.TheViews.{size_roll-Term};
 

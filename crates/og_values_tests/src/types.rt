@@ -342,7 +342,7 @@ fn values_are_of_types(rt: HostRuntime) -> Result<(), Fail> {
 }
 
 #[test]
-fn shown_tuple(rt: HostRuntime) -> Result<(), Fail> {
+fn text_of_a_tuple(rt: HostRuntime) -> Result<(), Fail> {
     let alloc = rt.alloc();
     let value = true_and(&rt, alloc, 1, 2)?;
     let text = show(alloc, &value, &moves(alloc)?)?;
