@@ -5,7 +5,7 @@ use Rattle.std.specs.Int.{int_div_euclid}
 use Rattle.std.proofs.lemmas.Int.{ints, unsigned_abs-mul}
 use Rattle.std.proofs.lemmas.Nat.{mul-lt}
 use Rattle.std.proofs.Math.Nat.{one-mul}
-use Rattle.og_frac.specs.Fraction.{Fraction, greatest_common_divisor, in_lowest_terms, IsInLowestTerms, sign, divided_down}
+use Rattle.og_frac.specs.Fraction.{Fraction, greatest_common_divisor, in_lowest_terms, IsInLowestTerms, sign, floor_div}
 use Rattle.og_frac.proofs.Divisors.{quotient_positive, greatest_common_divisor_is, greatest_common_divisor_left}
 
 sign-div : (n : ℤ) (g : ℕ) → sign n *ℤ pos (unsigned_abs n / g) ≡ int_div n (pos g)
@@ -42,7 +42,7 @@ lowest_from_parts n read signed m d s g er es eg ed em =
 pub unsigned_abs_times : (a b : ℤ) → unsigned_abs a < 2 ^ 63 → unsigned_abs b < 2 ^ 63 → unsigned_abs (a *ℤ b) < 2 ^ 126
 unsigned_abs_times a b h k = subst (λ n. n < 2 ^ 126) (sym (unsigned_abs-mul a b)) (mul-lt (unsigned_abs a) (unsigned_abs b) (2 ^ 63) (2 ^ 63) h k)
 
-pub int_div_euclid-pos : (n : ℤ) (m : ℤ) (d : ℕ) → m ≡ pos d → int_div_euclid n m ≡ divided_down n d
+pub int_div_euclid-pos : (n : ℤ) (m : ℤ) (d : ℕ) → m ≡ pos d → int_div_euclid n m ≡ floor_div n d
 int_div_euclid-pos (pos n) m d e = ap (int_div_euclid (pos n)) e
 int_div_euclid-pos (negsuc n) m d e = ap (int_div_euclid (negsuc n)) e
 
