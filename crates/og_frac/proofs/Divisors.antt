@@ -2,7 +2,8 @@
 use Rattle.std.proofs.Common.{◌≡◌, ℕ, zero, suc, ◌+◌, ◌*◌, ◌/◌, ◌%◌, ◌<◌, ◌≤◌, Bool, true, false, cond, ◌⊎◌, inl, inr, arith, refl, sym, ap, subst, ◌∙◌}
 use Rattle.std.specs.Prelude.{◌==◌, ◌&&◌}
 use Rattle.std.specs.Int.{IsGcd, ◌∣◌}
-use Rattle.std.proofs.Math.Nat.{dvd_refl, le_of_dvd, dvd_of_mod-eq-zero, mod-eq-zero_of_dvd, mod-lt, mod-zero, mul_comm, mul-zero, zero-mul, div-add-mod, mul-add, mul-lt-mul_of_pos_left, dvd-mul_left, eq-zero_of_zero-dvd, mul_left_comm, mul-one, eq_of_mul-eq-mul_left, mul-div_cancel'}
+use Rattle.std.proofs.Math.Nat.{dvd_refl, le_of_dvd, dvd_of_mod-eq-zero, mod-eq-zero_of_dvd, mod-lt, mod-zero, mul_comm, mul-zero, zero-mul, div-add-mod, mul-add, mul-lt-mul_of_pos_left, dvd-mul_left, eq-zero_of_zero-dvd, mul_left_comm, mul-one, eq_of_mul-eq-mul_left, mul-div_cancel', eq-zero-or-pos}
+use Rattle.std.proofs.lemmas.Bool.{and_from, and_parts}
 use Rattle.std.proofs.lemmas.Bool.Decides.{nat_tests}
 use Rattle.std.proofs.lemmas.Nat.Gcd.{IsGcd-from_zero, IsGcd-from_mod, same_from_IsGcd}
 use Rattle.std.proofs.lemmas.Nat.{mod-mul-add}
@@ -52,14 +53,6 @@ divides_in d n h = let e = mod-eq-zero_of_dvd d h in grind (arith, nat_tests)
 divides_out : (d n : ℕ) → divides d n ≡ true → d ∣ n
 divides_out d n h = let e : n % d ≡ zero = grind (arith, nat_tests) in dvd_of_mod-eq-zero d e
 
-both_in : (a b : Bool) → a ≡ true → b ≡ true → (a && b) ≡ true
-both_in true b h k = k
-both_in false b h k = h
-
-both_out : (a b : Bool) → (a && b) ≡ true → (a ≡ true) × (b ≡ true)
-both_out true b h = (refl, h)
-both_out false b h = absurd (cc)
-
 below_next : (k n : ℕ) (p : ℕ → Bool) → k ≤ suc n → p k ≡ true → p (suc n) ≡ false → k ≤ n
 below_next k n p h e t = by (k == suc n) refl
   where
@@ -87,10 +80,6 @@ greatest_passes : (n : ℕ) (p : ℕ → Bool) → 0 < greatest_up_to n p → p 
 greatest_passes zero p h = absurd (omega arith)
 greatest_passes (suc n) p h = passes_step n p (p (suc n)) refl (greatest_passes n p) h
 
-zero_or : (n : ℕ) → (n ≡ 0) ⊎ (0 < n)
-zero_or zero = inl refl
-zero_or (suc n) = inr (omega arith)
-
 divisor_small : (a b g : ℕ) → g ∣ a → g ∣ b → 0 < a + b → g ≤ a + b
 divisor_small zero b g p q some = let le = le_of_dvd (omega arith) q in omega arith
 divisor_small (suc a) b g p q some = let le = le_of_dvd {n = suc a} (omega arith) p in omega arith
@@ -109,9 +98,9 @@ common a b (inr some) =
     let g = f.number in
     let test : ℕ → Bool = λ d. divides d a && divides d b in
     let chosen = greatest_up_to (a + b) test in
-    let above : g ≤ chosen = greatest_above (a + b) test g (divisor_small a b g f.is.0 f.is.1 some) (both_in _ _ (divides_in g a f.is.0) (divides_in g b f.is.1)) in
+    let above : g ≤ chosen = greatest_above (a + b) test g (divisor_small a b g f.is.0 f.is.1 some) (and_from _ _ (divides_in g a f.is.0) (divides_in g b f.is.1)) in
     let positive = divisor_positive a b g f.is.0 f.is.1 some in
-    let passed = both_out _ _ (greatest_passes (a + b) test (omega arith)) in
+    let passed = and_parts _ _ (greatest_passes (a + b) test (omega arith)) in
     let divided : chosen ∣ g = f.is.2 chosen (divides_out chosen a passed.0) (divides_out chosen b passed.1) in
     let below = le_of_dvd positive divided in
     let same : g ≡ chosen = omega arith in
@@ -127,7 +116,7 @@ quotient_positive n g some h = by (n / g) (mul-div_cancel' g h)
 
 pub greatest_common_divisor_is : (a b : ℕ) → IsGcd a b (greatest_common_divisor a b)
 unfolding greatest_common_divisor
-greatest_common_divisor_is a b = common a b (zero_or (a + b))
+greatest_common_divisor_is a b = common a b (eq-zero-or-pos (a + b))
 
 -- what is a greatest common divisor is the one
 pub greatest_common_divisor_from : (a b g : ℕ) → IsGcd a b g → greatest_common_divisor a b ≡ g
@@ -137,11 +126,11 @@ pub greatest_common_divisor-zero : (a : ℕ) → greatest_common_divisor a 0 ≡
 greatest_common_divisor-zero a = greatest_common_divisor_from a 0 a (IsGcd-from_zero a 0 refl)
 
 -- a step of Euclid's algorithm
-pub greatest_common_divisor-step : (a b : ℕ) → greatest_common_divisor b (a % b) ≡ greatest_common_divisor a b
-greatest_common_divisor-step a b = sym (greatest_common_divisor_from a b _ (IsGcd-from_mod a b _ (greatest_common_divisor_is b (a % b))))
+pub greatest_common_divisor_step : (a b : ℕ) → greatest_common_divisor b (a % b) ≡ greatest_common_divisor a b
+greatest_common_divisor_step a b = sym (greatest_common_divisor_from a b _ (IsGcd-from_mod a b _ (greatest_common_divisor_is b (a % b))))
 
-greatest_common_divisor-multiples : (k a b : ℕ) → greatest_common_divisor (k * a) (k * b) ≡ k * greatest_common_divisor a b
-greatest_common_divisor-multiples k a b =
+greatest_common_divisor_multiples : (k a b : ℕ) → greatest_common_divisor (k * a) (k * b) ≡ k * greatest_common_divisor a b
+greatest_common_divisor_multiples k a b =
     let f = found a b in
     greatest_common_divisor_from (k * a) (k * b) (k * f.number) (f.times k)
     ∙ ap (λ n. k * n) (sym (greatest_common_divisor_from a b f.number f.is))
@@ -150,14 +139,14 @@ pub greatest_common_divisor_positive : (a b : ℕ) → 0 < b → 0 < greatest_co
 greatest_common_divisor_positive a b h = let is = greatest_common_divisor_is a b in divisor_positive a b _ is.0 is.1 (omega arith)
 
 -- what is left of two numbers without their common divisor has none
-pub greatest_common_divisor-left : (a b : ℕ) → 0 < b → greatest_common_divisor (a / greatest_common_divisor a b) (b / greatest_common_divisor a b) ≡ 1
-greatest_common_divisor-left a b h =
+pub greatest_common_divisor_left : (a b : ℕ) → 0 < b → greatest_common_divisor (a / greatest_common_divisor a b) (b / greatest_common_divisor a b) ≡ 1
+greatest_common_divisor_left a b h =
     let g = greatest_common_divisor a b in
     let is = greatest_common_divisor_is a b in
     let some : 0 < g = greatest_common_divisor_positive a b h in
     let first : g * (a / g) ≡ a = mul-div_cancel' g is.0 in
     let second : g * (b / g) ≡ b = mul-div_cancel' g is.1 in
-    let times = greatest_common_divisor-multiples g (a / g) (b / g) in
+    let times = greatest_common_divisor_multiples g (a / g) (b / g) in
     let whole : greatest_common_divisor (g * (a / g)) (g * (b / g)) ≡ g = (λ i. greatest_common_divisor (first i) (second i)) in
     eq_of_mul-eq-mul_left g some _ _ (sym times ∙ whole ∙ sym (mul-one g))
 
@@ -165,7 +154,7 @@ greatest_common_divisor-left a b h =
 pub divides_other : (a b c : ℕ) → greatest_common_divisor a b ≡ 1 → b ∣ c * a → b ∣ c
 divides_other a b c apart h =
     let times = greatest_common_divisor_is (c * a) (c * b) in
-    let is : greatest_common_divisor (c * a) (c * b) ≡ c = greatest_common_divisor-multiples c a b ∙ ap (λ n. c * n) apart ∙ mul-one c in
+    let is : greatest_common_divisor (c * a) (c * b) ≡ c = greatest_common_divisor_multiples c a b ∙ ap (λ n. c * n) apart ∙ mul-one c in
     subst (λ n. b ∣ n) is (times.2 b h (dvd-mul_left b c))
 
-pub ruleset euclid = (greatest_common_divisor-zero, greatest_common_divisor-step)
+pub ruleset euclid = (greatest_common_divisor-zero, greatest_common_divisor_step)

@@ -5,8 +5,8 @@ use Rattle.std.specs.Int.{int_div_euclid}
 use Rattle.std.proofs.lemmas.Int.{ints, unsigned_abs-mul}
 use Rattle.std.proofs.lemmas.Nat.{mul-lt}
 use Rattle.std.proofs.Math.Nat.{one-mul}
-use Rattle.og_frac.specs.Fraction.{Fraction, greatest_common_divisor, in_lowest_terms, IsInLowestTerms, sign, divided_down}
-use Rattle.og_frac.proofs.Divisors.{quotient_positive, greatest_common_divisor_is, greatest_common_divisor-left}
+use Rattle.og_frac.specs.Fraction.{Fraction, greatest_common_divisor, in_lowest_terms, IsInLowestTerms, sign, floor_div}
+use Rattle.og_frac.proofs.Divisors.{quotient_positive, greatest_common_divisor_is, greatest_common_divisor_left}
 
 sign-div : (n : ℤ) (g : ℕ) → sign n *ℤ pos (unsigned_abs n / g) ≡ int_div n (pos g)
 sign-div (pos n) g = ap pos (one-mul (n / g))
@@ -24,7 +24,7 @@ in_lowest_terms_is q h =
     let is = greatest_common_divisor_is a q.denominator in
     record {
       positive = quotient_positive q.denominator g h is.1;
-      reduced = ap (λ n. greatest_common_divisor n (q.denominator / g)) (unsigned_abs-div q.numerator g) ∙ greatest_common_divisor-left a q.denominator h;
+      reduced = ap (λ n. greatest_common_divisor n (q.denominator / g)) (unsigned_abs-div q.numerator g) ∙ greatest_common_divisor_left a q.denominator h;
     }
 
 -- what a size, a common divisor and a sign give
@@ -39,10 +39,10 @@ lowest_from_parts n read signed m d s g er es eg ed em =
     (λ i. record { numerator = first i; denominator = d / same i })
 
 -- the product of two numbers of 63 bits has 126
-pub unsigned_abs-times : (a b : ℤ) → unsigned_abs a < 2 ^ 63 → unsigned_abs b < 2 ^ 63 → unsigned_abs (a *ℤ b) < 2 ^ 126
-unsigned_abs-times a b h k = subst (λ n. n < 2 ^ 126) (sym (unsigned_abs-mul a b)) (mul-lt (unsigned_abs a) (unsigned_abs b) (2 ^ 63) (2 ^ 63) h k)
+pub unsigned_abs_times : (a b : ℤ) → unsigned_abs a < 2 ^ 63 → unsigned_abs b < 2 ^ 63 → unsigned_abs (a *ℤ b) < 2 ^ 126
+unsigned_abs_times a b h k = subst (λ n. n < 2 ^ 126) (sym (unsigned_abs-mul a b)) (mul-lt (unsigned_abs a) (unsigned_abs b) (2 ^ 63) (2 ^ 63) h k)
 
-pub int_div_euclid-pos : (n : ℤ) (m : ℤ) (d : ℕ) → m ≡ pos d → int_div_euclid n m ≡ divided_down n d
+pub int_div_euclid-pos : (n : ℤ) (m : ℤ) (d : ℕ) → m ≡ pos d → int_div_euclid n m ≡ floor_div n d
 int_div_euclid-pos (pos n) m d e = ap (int_div_euclid (pos n)) e
 int_div_euclid-pos (negsuc n) m d e = ap (int_div_euclid (negsuc n)) e
 

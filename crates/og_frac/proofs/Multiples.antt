@@ -3,7 +3,7 @@ use Rattle.std.proofs.Common.{◌≡◌, ℕ, ◌*◌, ◌/◌, ◌<◌, ◌≤�
 use Rattle.std.specs.Int.{◌∣◌}
 use Rattle.std.proofs.Math.Nat.{dvd_refl, dvd_trans, dvd_antisymm, dvd-mul_right, mul_comm, mul_assoc, mul-pos, mul-div_cancel', dvd_of_mul-dvd-mul_left, mul-dvd-mul_left, le_of_dvd}
 use Rattle.og_frac.specs.Fraction.{greatest_common_divisor, least_common_multiple}
-use Rattle.og_frac.proofs.Divisors.{quotient_positive, greatest_common_divisor_is, greatest_common_divisor_positive, greatest_common_divisor-left, divides_other}
+use Rattle.og_frac.proofs.Divisors.{quotient_positive, greatest_common_divisor_is, greatest_common_divisor_positive, greatest_common_divisor_left, divides_other}
 
 pub first_divides : (a b : ℕ) → a ∣ least_common_multiple a b
 unfolding least_common_multiple
@@ -33,7 +33,7 @@ divides_common a b m some p q =
     let whole : g * (b / g) ∣ g * (m / a * (a / g)) =
     subst (λ n. n ∣ g * (m / a * (a / g))) (sym second)
     (subst (λ n. b ∣ n) (sym times ∙ ap (λ n. n * (m / a)) (sym first) ∙ mul_assoc g (a / g) (m / a) ∙ ap (λ n. g * n) (mul_comm (a / g) (m / a))) q) in
-    let left : b / g ∣ m / a = divides_other (a / g) (b / g) (m / a) (greatest_common_divisor-left a b some) (dvd_of_mul-dvd-mul_left (b / g) positive whole) in
+    let left : b / g ∣ m / a = divides_other (a / g) (b / g) (m / a) (greatest_common_divisor_left a b some) (dvd_of_mul-dvd-mul_left (b / g) positive whole) in
     subst (λ n. a * (b / g) ∣ n) times (mul-dvd-mul_left (b / g) a left)
 
 pub least_common_multiple_positive : (a b : ℕ) → 0 < a → 0 < b → 0 < least_common_multiple a b

@@ -9,7 +9,7 @@ use Rattle.og_frac.specs.Fraction.{Fraction, in_lowest_terms, IsInLowestTerms, S
 use Rattle.og_frac.proofs.Divisors.{greatest_common_divisor_is, divides_other}
 use Rattle.og_frac.proofs.LowestTerms.{in_lowest_terms_is}
 use Rattle.og_frac.proofs.Wholes.{whole_is}
-use Rattle.og_frac.specs.Integers.{neg-times, times-times, times-add, times_cancel, times_same, turned}
+use Rattle.og_frac.specs.laws.Integers.{neg_times, times_times, times_add, times_cancel, times_same, times_comm}
 
 SameNumber_trans : (a b c : Fraction) → 0 < b.denominator → SameNumber a b → SameNumber b c → SameNumber a c
 SameNumber_trans a b c some p q =
@@ -17,7 +17,7 @@ SameNumber_trans a b c some p q =
     let y = b.denominator in
     let z = c.denominator in
     times_cancel (a.numerator *ℤ pos z) (c.numerator *ℤ pos x) y some
-    (turned a.numerator z y ∙ ap (λ n. n *ℤ pos z) p ∙ turned b.numerator x z ∙ ap (λ n. n *ℤ pos x) q ∙ turned c.numerator y x)
+    (times_comm a.numerator z y ∙ ap (λ n. n *ℤ pos z) p ∙ times_comm b.numerator x z ∙ ap (λ n. n *ℤ pos x) q ∙ times_comm c.numerator y x)
 
 shared : (a d g : ℕ) → g ∣ a → g ∣ d → a / g * d ≡ a * (d / g)
 shared a d g p q =
@@ -27,7 +27,7 @@ shared a d g p q =
 
 same_divided : (n : ℤ) (d g : ℕ) → g ∣ unsigned_abs n → g ∣ d → int_div n (pos g) *ℤ pos d ≡ n *ℤ pos (d / g)
 same_divided (pos n) d g p q = ap pos (shared n d g p q)
-same_divided (negsuc n) d g p q = neg-times (suc n / g) d ∙ ap (λ k. neg_ℤ (pos k)) (shared (suc n) d g p q)
+same_divided (negsuc n) d g p q = neg_times (suc n / g) d ∙ ap (λ k. neg_ℤ (pos k)) (shared (suc n) d g p q)
 
 -- lowest terms stand for the number
 pub SameNumber-in_lowest_terms : (q : Fraction) → SameNumber (in_lowest_terms q) q
@@ -82,10 +82,10 @@ plain_sum_assoc a b c =
     let m = b.numerator in
     let n = c.numerator in
     let left : (k *ℤ pos y +ℤ m *ℤ pos x) *ℤ pos z ≡ k *ℤ pos (y * z) +ℤ m *ℤ pos (x * z) =
-    times-add (k *ℤ pos y) (m *ℤ pos x) z ∙ (λ i. times-times k y z i +ℤ times-times m x z i) in
+    times_add (k *ℤ pos y) (m *ℤ pos x) z ∙ (λ i. times_times k y z i +ℤ times_times m x z i) in
     let right : (m *ℤ pos z +ℤ n *ℤ pos y) *ℤ pos x ≡ m *ℤ pos (x * z) +ℤ n *ℤ pos (x * y) =
-    times-add (m *ℤ pos z) (n *ℤ pos y) x
-    ∙ (λ i. (times-times m z x ∙ times_same m (z * x) (x * z) (mul_comm z x)) i +ℤ (times-times n y x ∙ times_same n (y * x) (x * y) (mul_comm y x)) i) in
+    times_add (m *ℤ pos z) (n *ℤ pos y) x
+    ∙ (λ i. (times_times m z x ∙ times_same m (z * x) (x * z) (mul_comm z x)) i +ℤ (times_times n y x ∙ times_same n (y * x) (x * y) (mul_comm y x)) i) in
     let numerators : (k *ℤ pos y +ℤ m *ℤ pos x) *ℤ pos z +ℤ n *ℤ pos (x * y) ≡ k *ℤ pos (y * z) +ℤ (m *ℤ pos z +ℤ n *ℤ pos y) *ℤ pos x =
     ap (λ s. s +ℤ n *ℤ pos (x * y)) left ∙ +ℤ_assoc (k *ℤ pos (y * z)) (m *ℤ pos (x * z)) (n *ℤ pos (x * y)) ∙ ap (λ s. k *ℤ pos (y * z) +ℤ s) (sym right) in
     (λ i. record { numerator = numerators i; denominator = mul_assoc x y z i })
@@ -100,11 +100,11 @@ plain_sum_same a b c e =
     let m = b.numerator in
     let n = c.numerator in
     let first : k *ℤ pos z *ℤ pos (y * z) ≡ m *ℤ pos z *ℤ pos (x * z) =
-    times-times k z (y * z) ∙ times_same k (z * (y * z)) (y * (z * z)) (omega arith) ∙ sym (times-times k y (z * z)) ∙ ap (λ s. s *ℤ pos (z * z)) e
-    ∙ times-times m x (z * z) ∙ times_same m (x * (z * z)) (z * (x * z)) (omega arith) ∙ sym (times-times m z (x * z)) in
+    times_times k z (y * z) ∙ times_same k (z * (y * z)) (y * (z * z)) (omega arith) ∙ sym (times_times k y (z * z)) ∙ ap (λ s. s *ℤ pos (z * z)) e
+    ∙ times_times m x (z * z) ∙ times_same m (x * (z * z)) (z * (x * z)) (omega arith) ∙ sym (times_times m z (x * z)) in
     let second : n *ℤ pos x *ℤ pos (y * z) ≡ n *ℤ pos y *ℤ pos (x * z) =
-    times-times n x (y * z) ∙ times_same n (x * (y * z)) (y * (x * z)) (omega arith) ∙ sym (times-times n y (x * z)) in
-    times-add (k *ℤ pos z) (n *ℤ pos x) (y * z) ∙ (λ i. first i +ℤ second i) ∙ sym (times-add (m *ℤ pos z) (n *ℤ pos y) (x * z))
+    times_times n x (y * z) ∙ times_same n (x * (y * z)) (y * (x * z)) (omega arith) ∙ sym (times_times n y (x * z)) in
+    times_add (k *ℤ pos z) (n *ℤ pos x) (y * z) ∙ (λ i. first i +ℤ second i) ∙ sym (times_add (m *ℤ pos z) (n *ℤ pos y) (x * z))
 
 pub sum_comm : (a b : Fraction) → sum a b ≡ sum b a
 unfolding sum

@@ -13,7 +13,7 @@ use Rattle.og_frac.specs.declared.terms.Term.{Term}
 use Rattle.og_frac.specs.Fraction.{Fraction, SameNumber, least_common_multiple, in_lowest_terms, sum, product, whole}
 use Rattle.og_frac.specs.Terms.{common_denominator, value_over, absolute_over, part_over, size_over, total, IsPositive}
 use Rattle.og_frac.proofs.Multiples.{first_divides, second_divides, divides_common, least_common_multiple_positive, least_common_multiple_of_multiple}
-use Rattle.og_frac.specs.Integers.{times-times, times-add, times_same}
+use Rattle.og_frac.specs.laws.Integers.{times_times, times_add, times_same}
 use Rattle.og_frac.proofs.Rationals.{plain_sum, in_lowest_terms_same, sum_of_lowest, in_lowest_terms-zero}
 
 pub positive : (ts : List Term) → All IsPositive ts → 0 < common_denominator ts
@@ -85,7 +85,7 @@ value_reordered common ts us moved =
 part_split : (v w s : ℕ) (n : ℤ) → pos (v + w) *ℤ n *ℤ pos s ≡ pos v *ℤ n *ℤ pos s +ℤ pos w *ℤ n *ℤ pos s
 part_split v w s n =
     ap (λ x. x *ℤ pos s) (*ℤ_comm (pos (v + w)) n ∙ spread n ∙ (λ i. *ℤ_comm n (pos v) i +ℤ *ℤ_comm n (pos w) i))
-    ∙ times-add (pos v *ℤ n) (pos w *ℤ n) s
+    ∙ times_add (pos v *ℤ n) (pos w *ℤ n) s
   where
     spread : (n : ℤ) → n *ℤ pos (v + w) ≡ n *ℤ pos v +ℤ n *ℤ pos w
     spread n = omega (arith, ints)
@@ -108,11 +108,11 @@ total_step t common rest p some h =
     let share : common / d * d ≡ common = div-mul_cancel d h in
     let one : 0 < 1 * d = omega arith in
     let part : n *ℤ pos (common / d) *ℤ pos (1 * d * common) ≡ n *ℤ pos common *ℤ pos common =
-    times-times n (common / d) (1 * d * common) ∙ times_same n (common / d * (1 * d * common)) (common * common)
-    (ap (λ x. common / d * (x * common)) (one-mul d) ∙ sym (mul_assoc (common / d) d common) ∙ ap (λ x. x * common) share) ∙ sym (times-times n common common) in
-    let other : rest *ℤ pos (1 * d * common) ≡ rest *ℤ pos (1 * d) *ℤ pos common = sym (times-times rest (1 * d) common) in
+    times_times n (common / d) (1 * d * common) ∙ times_same n (common / d * (1 * d * common)) (common * common)
+    (ap (λ x. common / d * (x * common)) (one-mul d) ∙ sym (mul_assoc (common / d) d common) ∙ ap (λ x. x * common) share) ∙ sym (times_times n common common) in
+    let other : rest *ℤ pos (1 * d * common) ≡ rest *ℤ pos (1 * d) *ℤ pos common = sym (times_times rest (1 * d) common) in
     let same : SameNumber (record { numerator = part_over common t +ℤ rest; denominator = common }) (plain_sum a b) =
-    times-add (part_over common t) rest (1 * d * common) ∙ (λ i. part i +ℤ other i) ∙ sym (times-add (n *ℤ pos common) (rest *ℤ pos (1 * d)) common) in
+    times_add (part_over common t) rest (1 * d * common) ∙ (λ i. part i +ℤ other i) ∙ sym (times_add (n *ℤ pos common) (rest *ℤ pos (1 * d)) common) in
     in_lowest_terms_same (record { numerator = part_over common t +ℤ rest; denominator = common }) (plain_sum a b) some (mul-pos one some) same
     ∙ sym (sum_of_lowest a b one some)
 

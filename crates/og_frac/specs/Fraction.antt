@@ -98,10 +98,10 @@ abbrev pub total_order : Fraction → Fraction → Ordering
 total_order a b = ordering_then (order (over_positive a) (over_positive b)) (nat_cmp a.denominator b.denominator)
 
 -- by rounding to the lower whole number
-abbrev pub divided_down : ℤ → ℕ → ℤ
-divided_down (pos n) d = pos (n / d)
-divided_down (negsuc n) d = negsuc (n / d)
+abbrev pub floor_div : ℤ → ℕ → ℤ
+floor_div (pos n) d = pos (n / d)
+floor_div (negsuc n) d = negsuc (n / d)
 
 -- the greatest whole number that is not above the fraction
 unfoldable pub floor : Fraction → ℤ
-floor q = divided_down q.numerator q.denominator
+floor q = floor_div q.numerator q.denominator

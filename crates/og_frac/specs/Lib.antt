@@ -3,5 +3,4 @@ pub mod Wide
 pub mod Frac
 pub mod Text
 pub mod Terms
-pub mod Integers
-pub mod Orders
+pub mod laws

@@ -2,7 +2,7 @@ ghost use Rattle.std.specs.Prelude.{◌≡◌, ◌<◌, ◌^◌, ◌↔◌, ◌�
 ghost use Rattle.og_frac.specs.Fraction.{Fraction, in_lowest_terms, IsFrac, sum, difference, product, quotient, sign, order, total_order, floor, whole};
 ghost use Rattle.std.specs.Ordering.{as_partial_cmp};
 ghost use Rattle.std.proofs.Common.{refl};
-ghost use Rattle.og_frac.specs.Orders.{total_order_total, total_order_equal};
+ghost use Rattle.og_frac.specs.laws.Orders.{total_order_total, total_order_equal};
 ghost use Rattle.std.specs.Cmp.{partial_order_from_agreeing_total};
 ghost use Rattle.og_frac.specs.Frac.{IsExact};
 ghost use Rattle.og_frac.specs.Text.{text};
@@ -38,7 +38,7 @@ impl Model for Frac {
 const LIMIT: u128 = 1 << 63;
 
 /// The fraction in lowest terms, if it fits.
-fn fitted(num: i128, den: u128) -> Result<Frac, FracFault>
+fn fit(num: i128, den: u128) -> Result<Frac, FracFault>
     requires positive { 0 < den }
     requires above_least { unsigned_abs num < 2 ^ 127 }
     ensures { IsExact result (in_lowest_terms (record { numerator = num; denominator = den })) }
@@ -54,7 +54,7 @@ fn fitted(num: i128, den: u128) -> Result<Frac, FracFault>
 }
 
 /// The product of two numbers below 2^63 in size, which has 126 bits.
-fn multiplied(first: i128, second: i128) -> i128
+fn multiply(first: i128, second: i128) -> i128
     requires first { unsigned_abs first < 2 ^ 63 }
     requires second { unsigned_abs second < 2 ^ 63 }
     ensures value { result ≡ first *ℤ second }
@@ -64,7 +64,7 @@ fn multiplied(first: i128, second: i128) -> i128
 }
 
 /// The sum of two numbers below 2^126 in size, which has 127 bits.
-fn added(first: i128, second: i128) -> i128
+fn add(first: i128, second: i128) -> i128
     requires first { unsigned_abs first < 2 ^ 126 }
     requires second { unsigned_abs second < 2 ^ 126 }
     ensures value { result ≡ first +ℤ second }
@@ -74,7 +74,7 @@ fn added(first: i128, second: i128) -> i128
 }
 
 /// The difference of two numbers below 2^126 in size, which has 127 bits.
-fn subtracted(first: i128, second: i128) -> i128
+fn subtract(first: i128, second: i128) -> i128
     requires first { unsigned_abs first < 2 ^ 126 }
     requires second { unsigned_abs second < 2 ^ 126 }
     ensures value { result ≡ first -ℤ second }
@@ -84,7 +84,7 @@ fn subtracted(first: i128, second: i128) -> i128
 }
 
 /// The number, or its opposite where the other number is below 0.
-fn turned(number: i128, other: i64) -> i128
+fn times_sign(number: i128, other: i64) -> i128
     requires { unsigned_abs number < 2 ^ 126 }
     ensures value { result ≡ number *ℤ sign other }
     ensures small { unsigned_abs result < 2 ^ 127 }
@@ -102,7 +102,7 @@ impl Frac {
         if d == 0 {
             return Err(FracFault::Zero);
         }
-        fitted(i128::from(n), u128::from(d))
+        fit(i128::from(n), u128::from(d))
     }
 
     /// The numerator, with the sign: no greatest common divisor.
@@ -126,10 +126,10 @@ impl Frac {
     pub fn add(self, by: Frac) -> Result<Frac, FracFault>
         ensures exact { IsExact result (sum self by) }
     {
-        let first = multiplied(i128::from(self.num), i128::from(by.den));
-        let second = multiplied(i128::from(by.num), i128::from(self.den));
-        fitted(
-            added(first, second),
+        let first = multiply(i128::from(self.num), i128::from(by.den));
+        let second = multiply(i128::from(by.num), i128::from(self.den));
+        fit(
+            add(first, second),
             u128::from(self.den) * u128::from(by.den),
         )
     }
@@ -140,10 +140,10 @@ impl Frac {
     pub fn sub(self, by: Frac) -> Result<Frac, FracFault>
         ensures exact { IsExact result (difference self by) }
     {
-        let first = multiplied(i128::from(self.num), i128::from(by.den));
-        let second = multiplied(i128::from(by.num), i128::from(self.den));
-        fitted(
-            subtracted(first, second),
+        let first = multiply(i128::from(self.num), i128::from(by.den));
+        let second = multiply(i128::from(by.num), i128::from(self.den));
+        fit(
+            subtract(first, second),
             u128::from(self.den) * u128::from(by.den),
         )
     }
@@ -153,8 +153,8 @@ impl Frac {
     pub fn mul(self, by: Frac) -> Result<Frac, FracFault>
         ensures exact { IsExact result (product self by) }
     {
-        let num = multiplied(i128::from(self.num), i128::from(by.num));
-        fitted(num, u128::from(self.den) * u128::from(by.den))
+        let num = multiply(i128::from(self.num), i128::from(by.num));
+        fit(num, u128::from(self.den) * u128::from(by.den))
     }
 
     /// The quotient, or what is given for it where the divisor is 0: one greatest common divisor, of the
@@ -167,9 +167,9 @@ impl Frac {
         if by.num == 0 {
             return Ok(otherwise);
         }
-        let num = multiplied(i128::from(self.num), i128::from(by.den));
+        let num = multiply(i128::from(self.num), i128::from(by.den));
         let size = u128::from(by.num.unsigned_abs());
-        fitted(turned(num, by.num), u128::from(self.den) * size)
+        fit(times_sign(num, by.num), u128::from(self.den) * size)
     }
 
     /// The greatest whole number that is not above the fraction: one division and no greatest common
@@ -206,8 +206,8 @@ impl Ord for Frac {
         ensures value { result ≡ order self.now other.now }
         ensures total { result ≡ total_order self.now other.now }
     {
-        let first = multiplied(i128::from(self.num), i128::from(other.den));
-        let second = multiplied(i128::from(other.num), i128::from(self.den));
+        let first = multiply(i128::from(self.num), i128::from(other.den));
+        let second = multiply(i128::from(other.num), i128::from(self.den));
         first.cmp(&second)
     }
 }

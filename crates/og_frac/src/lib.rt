@@ -13,6 +13,3 @@ pub use fault::{FracFault, SumFault};
 pub use frac::Frac;
 pub use terms::{Sum, Term};
 pub use wide::Wide;
-
-#[cfg(test)]
-mod tests;

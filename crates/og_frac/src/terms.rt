@@ -47,7 +47,7 @@ fn least_common_multiple(first: u64, second: u64) -> u128
 
 /// The least common multiple with one more number, if that is below 2^63.
 #[tactic(auto, using(crate::proofs::Multiples::multiple_above))]
-fn joined(common: Option<u64>, den: u64) -> Option<u64>
+fn common_with(common: Option<u64>, den: u64) -> Option<u64>
     requires positive { 0 < den }
     requires small { den < 2 ^ 63 }
     requires common { ForSome common (λ c. (0 < c) × (c < 2 ^ 63)) }
@@ -70,7 +70,7 @@ fn common_denominator(terms: &[Term]) -> Option<u64>
 {
     let mut common = Some(1);
     'terms: for term in terms {
-        common = joined(common, term.pay.den());
+        common = common_with(common, term.pay.den());
     }
     common
 }
@@ -87,7 +87,7 @@ fn size(term: &Term, common: u64) -> Option<u128>
 /// The sum over the common denominator, if its sizes add up to at most `room`. Each term is tested
 /// against the room that is left before it is added, so no step overflows: the sum of sizes stays
 /// below 2^126, and the sum's own size below that.
-fn summed(terms: &[Term], common: u64, room: u128) -> Option<Sum>
+fn sum_over(terms: &[Term], common: u64, room: u128) -> Option<Sum>
     requires { room < 2 ^ 126 }
     ensures { MatchOption result (room < absolute_over common terms.now) (IsSumWithin terms.now common room) }
 {
@@ -123,7 +123,7 @@ impl Sum {
         let Some(common) = common_denominator(terms) else {
             return Err(SumFault::Passes);
         };
-        match summed(terms, common, GREATEST / u128::from(times)) {
+        match sum_over(terms, common, GREATEST / u128::from(times)) {
             Some(sum) => Ok(sum),
             None => Err(SumFault::Passes),
         }
@@ -135,7 +135,7 @@ impl Sum {
         requires { absolute_over common terms.now < 2 ^ 126 }
         ensures { result ≡ value_over common terms.now }
     {
-        match summed(terms, common, GREATEST) {
+        match sum_over(terms, common, GREATEST) {
             Some(sum) => sum.value,
             None => 0,
         }

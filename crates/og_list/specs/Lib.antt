@@ -1,2 +1,2 @@
 pub mod formers
-pub mod Weights
+pub mod laws

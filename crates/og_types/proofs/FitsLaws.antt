@@ -3,8 +3,8 @@ use Rattle.std.proofs.Common.{◌≡◌, ℕ, ℤ, Bool, true, ◌&&◌, ◌==�
 use Rattle.std.specs.Prelude.{int_le, nat_lt}
 use Rattle.std.specs.Cmp.Lexicographic.{pointwise}
 use Rattle.std.proofs.lemmas.Int.{ints}
+use Rattle.std.proofs.lemmas.Bool.{and_from, and_parts}
 use Rattle.og_frac.specs.Fraction.{Fraction}
-use Rattle.og_types.specs.ValueEquality.{and_true}
 use Rattle.og_types.specs.declared.value.Value.{Value}
 use Rattle.og_types.specs.declared.value.Value.TheOpen.{Value-F}
 use Rattle.og_types.specs.declared.value.Value.TheOpen as value
@@ -29,9 +29,6 @@ fits_open u w = ap (λ t. fits t w) (sym (roll-out-Ty u)) ∙ fits_at (out-Ty u)
 pub holds_open : (u : Ty) (v : Value) → holds u v ≡ holds_step (map-Ty Ty (Value → Bool) holds (out-Ty u)) (out-Value v)
 holds_open u v = ap (λ t. holds t v) (sym (roll-out-Ty u)) ∙ holds_at (out-Ty u) v
 
-pub both_true : (a b : Bool) → a ≡ true → b ≡ true → a && b ≡ true
-both_true a b p q = λ i. p i && q i
-
 -- numbers that are equal to the same number
 pub nat_along : (a b c : ℕ) → (a == b) ≡ true → (b == c) ≡ true → (a == c) ≡ true
 nat_along a b c p q = eq-eqb a c (eqb-true a b p ∙ eqb-true b c q)
@@ -52,9 +49,9 @@ parts_itself [] = refl
 parts_itself (e ∷ es) = (λ i. e.1 i && parts_itself es i)
 
 level_itself : (y : Ty-F ((t : Ty) × (fits t t ≡ true))) → fits_step (map-Ty Ty (Ty → Bool) fits (map-Ty ((t : Ty) × (fits t t ≡ true)) Ty (λ e. e.0) y)) (map-Ty ((t : Ty) × (fits t t ≡ true)) Ty (λ e. e.0) y) ≡ true
-level_itself (one.Enum family cases) = both_true (family == family) (cases == cases) (eq-eqb family family refl) (eq-eqb cases cases refl)
+level_itself (one.Enum family cases) = and_from (family == family) (cases == cases) (eq-eqb family family refl) (eq-eqb cases cases refl)
 level_itself one.Bool = refl
-level_itself (one.Range low high) = both_true (int_le low low) (int_le high high) (int_le_itself low) (int_le_itself high)
+level_itself (one.Range low high) = and_from (int_le low low) (int_le high high) (int_le_itself low) (int_le_itself high)
 level_itself one.Number = refl
 level_itself (one.Tuple es) = parts_itself es
 
@@ -73,20 +70,20 @@ parts_along [] (u ∷ us) ws p q = absurd (cc)
 parts_along (e ∷ es) [] ws p q = absurd (cc)
 parts_along (e ∷ es) (u ∷ us) [] p q = q
 parts_along (e ∷ es) (u ∷ us) (w ∷ ws) p q =
-    let first = and_true (fits e.0 u) (pointwise (λ part other. part other) (map fits (map (λ e. e.0) es)) us) p in
-    let second = and_true (fits u w) (pointwise (λ part other. part other) (map fits us) ws) q in
+    let first = and_parts (fits e.0 u) (pointwise (λ part other. part other) (map fits (map (λ e. e.0) es)) us) p in
+    let second = and_parts (fits u w) (pointwise (λ part other. part other) (map fits us) ws) q in
     (λ i. e.1 u w first.0 second.0 i && parts_along es us ws first.1 second.1 i)
 
 levels_along : (y : Ty-F ((t : Ty) × Along t)) (z x : Ty-F Ty) → fits_step (map-Ty Ty (Ty → Bool) fits (map-Ty ((t : Ty) × Along t) Ty (λ e. e.0) y)) z ≡ true → fits_step (map-Ty Ty (Ty → Bool) fits z) x ≡ true → fits_step (map-Ty Ty (Ty → Bool) fits (map-Ty ((t : Ty) × Along t) Ty (λ e. e.0) y)) x ≡ true
 levels_along (one.Enum family cases) (one.Enum other count) (one.Enum last many) p q =
-    let first = and_true (family == other) (cases == count) p in
-    let second = and_true (other == last) (count == many) q in
-    both_true (family == last) (cases == many) (nat_along family other last first.0 second.0) (nat_along cases count many first.1 second.1)
+    let first = and_parts (family == other) (cases == count) p in
+    let second = and_parts (other == last) (count == many) q in
+    and_from (family == last) (cases == many) (nat_along family other last first.0 second.0) (nat_along cases count many first.1 second.1)
 levels_along one.Bool one.Bool x p q = q
 levels_along (one.Range low high) (one.Range from to) (one.Range least most) p q =
-    let first = and_true (int_le from low) (int_le high to) p in
-    let second = and_true (int_le least from) (int_le to most) q in
-    both_true (int_le least low) (int_le high most) (int_le_along least from low second.0 first.0) (int_le_along high to most first.1 second.1)
+    let first = and_parts (int_le from low) (int_le high to) p in
+    let second = and_parts (int_le least from) (int_le to most) q in
+    and_from (int_le least low) (int_le high most) (int_le_along least from low second.0 first.0) (int_le_along high to most first.1 second.1)
 levels_along (one.Range low high) (one.Range from to) one.Number p q = refl
 levels_along (one.Range low high) one.Number one.Number p q = refl
 levels_along one.Number one.Number x p q = q
@@ -108,18 +105,18 @@ parts_both [] [] p q = refl
 parts_both [] (u ∷ us) p q = absurd (cc)
 parts_both (e ∷ es) [] p q = absurd (cc)
 parts_both (e ∷ es) (u ∷ us) p q =
-    let first = and_true (fits e.0 u) (pointwise (λ part other. part other) (map fits (map (λ e. e.0) es)) us) p in
-    let second = and_true (fits u e.0) (pointwise (λ part other. part other) (map fits us) (map (λ e. e.0) es)) q in
+    let first = and_parts (fits e.0 u) (pointwise (λ part other. part other) (map fits (map (λ e. e.0) es)) us) p in
+    let second = and_parts (fits u e.0) (pointwise (λ part other. part other) (map fits us) (map (λ e. e.0) es)) q in
     (λ i. e.1 u first.0 second.0 i ∷ parts_both es us first.1 second.1 i)
 
 levels_both : (y : Ty-F ((t : Ty) × Both t)) (z : Ty-F Ty) → fits_step (map-Ty Ty (Ty → Bool) fits (map-Ty ((t : Ty) × Both t) Ty (λ e. e.0) y)) z ≡ true → fits_step (map-Ty Ty (Ty → Bool) fits z) (map-Ty ((t : Ty) × Both t) Ty (λ e. e.0) y) ≡ true → map-Ty ((t : Ty) × Both t) Ty (λ e. e.0) y ≡ z
 levels_both (one.Enum family cases) (one.Enum other count) p q =
-    let both = and_true (family == other) (cases == count) p in
+    let both = and_parts (family == other) (cases == count) p in
     (λ i. one.Enum (eqb-true family other both.0 i) (eqb-true cases count both.1 i))
 levels_both one.Bool one.Bool p q = refl
 levels_both (one.Range low high) (one.Range from to) p q =
-    let first = and_true (int_le from low) (int_le high to) p in
-    let second = and_true (int_le low from) (int_le to high) q in
+    let first = and_parts (int_le from low) (int_le high to) p in
+    let second = and_parts (int_le low from) (int_le to high) q in
     (λ i. one.Range (int_le_both low from second.0 first.0 i) (int_le_both high to first.1 second.1 i))
 levels_both one.Number one.Number p q = refl
 levels_both (one.Tuple es) (one.Tuple us) p q = ap one.Tuple (parts_both es us p q)
@@ -134,11 +131,11 @@ fits_both_ways = ind-Ty Both (λ x y is. subst (λ z. Both (roll-Ty z)) is (λ u
 
 between_wider : (low high from to : ℤ) (q : Fraction) → int_le from low && int_le high to ≡ true → is_between low high q ≡ true → is_between from to q ≡ true
 between_wider low high from to q p h =
-    let wider = and_true (int_le from low) (int_le high to) p in
-    let whole = and_true (q.denominator == 1) (int_le low q.numerator && int_le q.numerator high) h in
-    let within = and_true (int_le low q.numerator) (int_le q.numerator high) whole.1 in
-    both_true (q.denominator == 1) (int_le from q.numerator && int_le q.numerator to) whole.0
-    (both_true (int_le from q.numerator) (int_le q.numerator to) (int_le_along from low q.numerator wider.0 within.0) (int_le_along q.numerator high to within.1 wider.1))
+    let wider = and_parts (int_le from low) (int_le high to) p in
+    let whole = and_parts (q.denominator == 1) (int_le low q.numerator && int_le q.numerator high) h in
+    let within = and_parts (int_le low q.numerator) (int_le q.numerator high) whole.1 in
+    and_from (q.denominator == 1) (int_le from q.numerator && int_le q.numerator to) whole.0
+    (and_from (int_le from q.numerator) (int_le q.numerator to) (int_le_along from low q.numerator wider.0 within.0) (int_le_along q.numerator high to within.1 wider.1))
 
 abbrev Passes : Ty → Type 0
 Passes t = (u : Ty) (v : Value) → fits t u ≡ true → holds t v ≡ true → holds u v ≡ true
@@ -149,15 +146,15 @@ parts_pass [] (u ∷ us) vs p q = absurd (cc)
 parts_pass (e ∷ es) [] vs p q = absurd (cc)
 parts_pass (e ∷ es) (u ∷ us) [] p q = q
 parts_pass (e ∷ es) (u ∷ us) (v ∷ vs) p q =
-    let first = and_true (fits e.0 u) (pointwise (λ part other. part other) (map fits (map (λ e. e.0) es)) us) p in
-    let second = and_true (holds e.0 v) (pointwise (λ part v. part v) (map holds (map (λ e. e.0) es)) vs) q in
+    let first = and_parts (fits e.0 u) (pointwise (λ part other. part other) (map fits (map (λ e. e.0) es)) us) p in
+    let second = and_parts (holds e.0 v) (pointwise (λ part v. part v) (map holds (map (λ e. e.0) es)) vs) q in
     (λ i. e.1 u v first.0 second.0 i && parts_pass es us vs first.1 second.1 i)
 
 levels_pass : (y : Ty-F ((t : Ty) × Passes t)) (z : Ty-F Ty) (x : Value-F Value) → fits_step (map-Ty Ty (Ty → Bool) fits (map-Ty ((t : Ty) × Passes t) Ty (λ e. e.0) y)) z ≡ true → holds_step (map-Ty Ty (Value → Bool) holds (map-Ty ((t : Ty) × Passes t) Ty (λ e. e.0) y)) x ≡ true → holds_step (map-Ty Ty (Value → Bool) holds z) x ≡ true
 levels_pass (one.Enum family cases) (one.Enum other count) (value.Case last index) p q =
-    let first = and_true (family == other) (cases == count) p in
-    let second = and_true (family == last) (nat_lt index cases) q in
-    both_true (other == last) (nat_lt index count) (eq-eqb other last (sym (eqb-true family other first.0) ∙ eqb-true family last second.0)) (ap (nat_lt index) (sym (eqb-true cases count first.1)) ∙ second.1)
+    let first = and_parts (family == other) (cases == count) p in
+    let second = and_parts (family == last) (nat_lt index cases) q in
+    and_from (other == last) (nat_lt index count) (eq-eqb other last (sym (eqb-true family other first.0) ∙ eqb-true family last second.0)) (ap (nat_lt index) (sym (eqb-true cases count first.1)) ∙ second.1)
 levels_pass one.Bool one.Bool x p q = q
 levels_pass (one.Range low high) (one.Range from to) (value.Number number) p q = between_wider low high from to number p q
 levels_pass (one.Range low high) one.Number (value.Number number) p q = refl

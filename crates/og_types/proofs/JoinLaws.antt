@@ -6,7 +6,7 @@ use Rattle.std.specs.Option.{option_map}
 use Rattle.std.specs.List.{list_all}
 use Rattle.std.specs.Cmp.Lexicographic.{pointwise}
 use Rattle.std.proofs.lemmas.Int.{ints}
-use Rattle.og_types.specs.ValueEquality.{and_true}
+use Rattle.std.proofs.lemmas.Bool.{and_from, and_parts}
 use Rattle.og_types.specs.declared.ty.Ty.{Ty}
 use Rattle.og_types.specs.declared.ty.Ty.TheOpen.{Ty-F}
 use Rattle.og_types.specs.declared.ty.Ty.TheOpen as one
@@ -14,7 +14,7 @@ use Rattle.og_types.specs.declared.ty.Ty.TheViews.{out-Ty, roll-Ty, roll-out-Ty,
 use Rattle.og_types.specs.declared.ty.Ty.TheFolds.{fold-roll-Ty, map-Ty, ind-Ty}
 use Rattle.og_types.specs.declared.ty.Ty.TheVariants as ty
 use Rattle.og_types.specs.Ty.{fits, fits_step, join, join_step, joins, bounds_fit, bounds_fit_step}
-use Rattle.og_types.proofs.FitsLaws.{fits_at, fits_open, fits_itself, fits_both_ways, both_true}
+use Rattle.og_types.proofs.FitsLaws.{fits_at, fits_open, fits_itself, fits_both_ways}
 use Rattle.og_types.proofs.TyLevels.{fold_enum, fold_bool, fold_range, fold_number, bounds_fit_tuple}
 
 pub join_at : (z : Ty-F Ty) (w : Ty) → join (roll-Ty z) w ≡ join_step (map-Ty Ty (Ty → Option Ty) join z) (out-Ty w)
@@ -87,14 +87,14 @@ parts_upper (e ∷ es) (u ∷ us) = by (join e.0 u) (joins (map join (map (λ e.
 levels_upper : (y : Ty-F ((t : Ty) × Upper t)) (z : Ty-F Ty) → IfSome (join_step (map-Ty Ty (Ty → Option Ty) join (map-Ty ((t : Ty) × Upper t) Ty (λ e. e.0) y)) z) (λ w. (fits_step (map-Ty Ty (Ty → Bool) fits (map-Ty ((t : Ty) × Upper t) Ty (λ e. e.0) y)) (out-Ty w) ≡ true) × (fits_step (map-Ty Ty (Ty → Bool) fits z) (out-Ty w) ≡ true))
 levels_upper (one.Enum family cases) (one.Enum other count) =
     some_kept (ty.Enum family cases) (λ w. (fits_step (one.Enum family cases) (out-Ty w) ≡ true) × (fits_step (one.Enum other count) (out-Ty w) ≡ true)) ((family == other) && (cases == count)) (λ e.
-    let both = and_true (family == other) (cases == count) e in (
-      ap (fits_step (one.Enum family cases)) (ty.outs-Enum family cases) ∙ both_true (family == family) (cases == cases) (eq-eqb family family refl) (eq-eqb cases cases refl),
-      ap (fits_step (one.Enum other count)) (ty.outs-Enum family cases) ∙ both_true (other == family) (count == cases) (eq-eqb other family (sym (eqb-true family other both.0))) (eq-eqb count cases (sym (eqb-true cases count both.1))),
+    let both = and_parts (family == other) (cases == count) e in (
+      ap (fits_step (one.Enum family cases)) (ty.outs-Enum family cases) ∙ and_from (family == family) (cases == cases) (eq-eqb family family refl) (eq-eqb cases cases refl),
+      ap (fits_step (one.Enum other count)) (ty.outs-Enum family cases) ∙ and_from (other == family) (count == cases) (eq-eqb other family (sym (eqb-true family other both.0))) (eq-eqb count cases (sym (eqb-true cases count both.1))),
     ))
 levels_upper one.Bool one.Bool = (ap (fits_step one.Bool) ty.outs-Bool, ap (fits_step one.Bool) ty.outs-Bool)
 levels_upper (one.Range low high) (one.Range from to) = (
-  ap (fits_step (one.Range low high)) (ty.outs-Range (int_min low from) (int_max high to)) ∙ both_true (int_le (int_min low from) low) (int_le high (int_max high to)) (min_first low from) (max_first high to),
-  ap (fits_step (one.Range from to)) (ty.outs-Range (int_min low from) (int_max high to)) ∙ both_true (int_le (int_min low from) from) (int_le to (int_max high to)) (min_second low from) (max_second high to),
+  ap (fits_step (one.Range low high)) (ty.outs-Range (int_min low from) (int_max high to)) ∙ and_from (int_le (int_min low from) low) (int_le high (int_max high to)) (min_first low from) (max_first high to),
+  ap (fits_step (one.Range from to)) (ty.outs-Range (int_min low from) (int_max high to)) ∙ and_from (int_le (int_min low from) from) (int_le to (int_max high to)) (min_second low from) (max_second high to),
 )
 levels_upper (one.Range low high) one.Number = (ap (fits_step (one.Range low high)) ty.outs-Number, ap (fits_step one.Number) ty.outs-Number)
 levels_upper one.Number (one.Range from to) = (ap (fits_step one.Number) ty.outs-Number, ap (fits_step (one.Range from to)) ty.outs-Number)
@@ -138,8 +138,8 @@ parts_least [] (u ∷ us) (w ∷ ws) p q = absurd (cc)
 parts_least (e ∷ es) us [] p q = absurd (cc)
 parts_least (e ∷ es) [] (w ∷ ws) p q = absurd (cc)
 parts_least (e ∷ es) (u ∷ us) (w ∷ ws) p q =
-    let first = and_true (fits e.0 w) (pointwise (λ part other. part other) (map fits (map (λ e. e.0) es)) ws) p in
-    let second = and_true (fits u w) (pointwise (λ part other. part other) (map fits us) ws) q in
+    let first = and_parts (fits e.0 w) (pointwise (λ part other. part other) (map fits (map (λ e. e.0) es)) ws) p in
+    let second = and_parts (fits u w) (pointwise (λ part other. part other) (map fits us) ws) q in
     by (join e.0 u) (joins (map join (map (λ e. e.0) es)) us) (e.1 u w first.0 second.0) (parts_least es us ws first.1 second.1)
   where
     by : (o : Option Ty) (more : Option (List Ty)) → IsSomeAnd o (λ least. fits least w ≡ true) → IsSomeAnd more (λ least. pointwise (λ part other. part other) (map fits least) ws ≡ true) → IsSomeAnd (option_and_then (λ t. option_map (λ ts. t ∷ ts) more) o) (λ least. pointwise (λ part other. part other) (map fits least) (w ∷ ws) ≡ true)
@@ -149,16 +149,16 @@ parts_least (e ∷ es) (u ∷ us) (w ∷ ws) p q =
 
 levels_least : (x : Ty-F Ty) (y : Ty-F ((t : Ty) × Least t)) (z : Ty-F Ty) → fits_step (map-Ty Ty (Ty → Bool) fits (map-Ty ((t : Ty) × Least t) Ty (λ e. e.0) y)) x ≡ true → fits_step (map-Ty Ty (Ty → Bool) fits z) x ≡ true → IsSomeAnd (join_step (map-Ty Ty (Ty → Option Ty) join (map-Ty ((t : Ty) × Least t) Ty (λ e. e.0) y)) z) (λ least. fits_step (map-Ty Ty (Ty → Bool) fits (out-Ty least)) x ≡ true)
 levels_least (one.Enum last many) (one.Enum family cases) (one.Enum other count) p q =
-    let first = and_true (family == last) (cases == many) p in
-    let second = and_true (other == last) (count == many) q in
+    let first = and_parts (family == last) (cases == many) p in
+    let second = and_parts (other == last) (count == many) q in
     some_found (ty.Enum family cases) (λ least. fits_step (map-Ty Ty (Ty → Bool) fits (out-Ty least)) (one.Enum last many) ≡ true) ((family == other) && (cases == count))
-    (both_true (family == other) (cases == count) (eq-eqb family other (eqb-true family last first.0 ∙ sym (eqb-true other last second.0))) (eq-eqb cases count (eqb-true cases many first.1 ∙ sym (eqb-true count many second.1))))
+    (and_from (family == other) (cases == count) (eq-eqb family other (eqb-true family last first.0 ∙ sym (eqb-true other last second.0))) (eq-eqb cases count (eqb-true cases many first.1 ∙ sym (eqb-true count many second.1))))
     (ap (λ least. fits_step (map-Ty Ty (Ty → Bool) fits least) (one.Enum last many)) (ty.outs-Enum family cases) ∙ p)
 levels_least one.Bool one.Bool one.Bool p q = ap (λ least. fits_step (map-Ty Ty (Ty → Bool) fits least) one.Bool) ty.outs-Bool
 levels_least (one.Range least most) (one.Range low high) (one.Range from to) p q =
-    let first = and_true (int_le least low) (int_le high most) p in
-    let second = and_true (int_le least from) (int_le to most) q in
-    ap (λ w. fits_step (map-Ty Ty (Ty → Bool) fits w) (one.Range least most)) (ty.outs-Range (int_min low from) (int_max high to)) ∙ both_true (int_le least (int_min low from)) (int_le (int_max high to) most) (min_greatest low from least first.0 second.0) (max_least high to most first.1 second.1)
+    let first = and_parts (int_le least low) (int_le high most) p in
+    let second = and_parts (int_le least from) (int_le to most) q in
+    ap (λ w. fits_step (map-Ty Ty (Ty → Bool) fits w) (one.Range least most)) (ty.outs-Range (int_min low from) (int_max high to)) ∙ and_from (int_le least (int_min low from)) (int_le (int_max high to) most) (min_greatest low from least first.0 second.0) (max_least high to most first.1 second.1)
 levels_least one.Number (one.Range low high) (one.Range from to) p q = ap (λ w. fits_step (map-Ty Ty (Ty → Bool) fits w) one.Number) (ty.outs-Range (int_min low from) (int_max high to))
 levels_least one.Number (one.Range low high) one.Number p q = ap (λ w. fits_step (map-Ty Ty (Ty → Bool) fits w) one.Number) ty.outs-Number
 levels_least one.Number one.Number (one.Range from to) p q = ap (λ w. fits_step (map-Ty Ty (Ty → Bool) fits w) one.Number) ty.outs-Number
@@ -203,7 +203,7 @@ parts_itself [] = refl
 parts_itself (e ∷ es) = (λ i. option_and_then (λ t. option_map (λ ts. t ∷ ts) (parts_itself es i)) (e.1 i))
 
 level_itself : (y : Ty-F ((t : Ty) × Itself t)) → join_step (map-Ty Ty (Ty → Option Ty) join (map-Ty ((t : Ty) × Itself t) Ty (λ e. e.0) y)) (map-Ty ((t : Ty) × Itself t) Ty (λ e. e.0) y) ≡ Some (roll-Ty (map-Ty ((t : Ty) × Itself t) Ty (λ e. e.0) y))
-level_itself (one.Enum family cases) = chosen (ty.Enum family cases) ((family == family) && (cases == cases)) (both_true (family == family) (cases == cases) (eq-eqb family family refl) (eq-eqb cases cases refl)) ∙ ap Some (sym (ty.rolls-Enum family cases))
+level_itself (one.Enum family cases) = chosen (ty.Enum family cases) ((family == family) && (cases == cases)) (and_from (family == family) (cases == cases) (eq-eqb family family refl) (eq-eqb cases cases refl)) ∙ ap Some (sym (ty.rolls-Enum family cases))
 level_itself one.Bool = ap Some (sym ty.rolls-Bool)
 level_itself (one.Range low high) = (λ i. Some (ty.Range (min_itself low i) (max_itself high i))) ∙ ap Some (sym (ty.rolls-Range low high))
 level_itself one.Number = ap Some (sym ty.rolls-Number)
@@ -225,14 +225,14 @@ parts_swapped (e ∷ es) [] = refl
 parts_swapped (e ∷ es) (u ∷ us) = (λ i. option_and_then (λ t. option_map (λ ts. t ∷ ts) (parts_swapped es us i)) (e.1 u i))
 
 enums_swapped : (m n k l : ℕ) (a b : Bool) → (m == n) && (k == l) ≡ a → (n == m) && (l == k) ≡ b → cond a (Some (ty.Enum m k)) None ≡ cond b (Some (ty.Enum n l)) None
-enums_swapped m n k l true true p q = let both = and_true (m == n) (k == l) p in (λ i. Some (ty.Enum (eqb-true m n both.0 i) (eqb-true k l both.1 i)))
+enums_swapped m n k l true true p q = let both = and_parts (m == n) (k == l) p in (λ i. Some (ty.Enum (eqb-true m n both.0 i) (eqb-true k l both.1 i)))
 enums_swapped m n k l true false p q =
-    let both = and_true (m == n) (k == l) p in
-    let back = both_true (n == m) (l == k) (eq-eqb n m (sym (eqb-true m n both.0))) (eq-eqb l k (sym (eqb-true k l both.1))) in
+    let both = and_parts (m == n) (k == l) p in
+    let back = and_from (n == m) (l == k) (eq-eqb n m (sym (eqb-true m n both.0))) (eq-eqb l k (sym (eqb-true k l both.1))) in
     absurd (cc)
 enums_swapped m n k l false true p q =
-    let both = and_true (n == m) (l == k) q in
-    let back = both_true (m == n) (k == l) (eq-eqb m n (sym (eqb-true n m both.0))) (eq-eqb k l (sym (eqb-true l k both.1))) in
+    let both = and_parts (n == m) (l == k) q in
+    let back = and_from (m == n) (k == l) (eq-eqb m n (sym (eqb-true n m both.0))) (eq-eqb k l (sym (eqb-true l k both.1))) in
     absurd (cc)
 enums_swapped m n k l false false p q = refl
 
@@ -276,8 +276,8 @@ parts_bounds [] [] p q = refl
 parts_bounds [] (u ∷ us) p q = tt
 parts_bounds (e ∷ es) [] p q = tt
 parts_bounds (e ∷ es) (u ∷ us) p q =
-    let first = and_true (bounds_fit e.0) (list_all (λ part. part) (map bounds_fit (map (λ e. e.0) es))) p in
-    let second = and_true (bounds_fit u) (list_all (λ part. part) (map bounds_fit us)) q in
+    let first = and_parts (bounds_fit e.0) (list_all (λ part. part) (map bounds_fit (map (λ e. e.0) es))) p in
+    let second = and_parts (bounds_fit u) (list_all (λ part. part) (map bounds_fit us)) q in
     by (join e.0 u) (joins (map join (map (λ e. e.0) es)) us) (e.1 u first.0 second.0) (parts_bounds es us first.1 second.1)
   where
     by : (o : Option Ty) (more : Option (List Ty)) → IfSome o (λ w. bounds_fit w ≡ true) → IfSome more (λ ws. list_all bounds_fit ws ≡ true) → IfSome (option_and_then (λ t. option_map (λ ts. t ∷ ts) more) o) (λ ws. list_all bounds_fit ws ≡ true)
@@ -289,10 +289,10 @@ levels_bounds : (y : Ty-F ((t : Ty) × Bounds t)) (z : Ty-F Ty) → bounds_fit_s
 levels_bounds (one.Enum family cases) (one.Enum other count) p q = some_kept (ty.Enum family cases) (λ w. bounds_fit w ≡ true) ((family == other) && (cases == count)) (λ e. fold_enum Bool bounds_fit_step family cases)
 levels_bounds one.Bool one.Bool p q = fold_bool Bool bounds_fit_step
 levels_bounds (one.Range low high) (one.Range from to) p q =
-    let first = and_true (nat_lt (unsigned_abs low) (2 ^ 63)) (nat_lt (unsigned_abs high) (2 ^ 63)) p in
-    let second = and_true (nat_lt (unsigned_abs from) (2 ^ 63)) (nat_lt (unsigned_abs to) (2 ^ 63)) q in
+    let first = and_parts (nat_lt (unsigned_abs low) (2 ^ 63)) (nat_lt (unsigned_abs high) (2 ^ 63)) p in
+    let second = and_parts (nat_lt (unsigned_abs from) (2 ^ 63)) (nat_lt (unsigned_abs to) (2 ^ 63)) q in
     fold_range Bool bounds_fit_step (int_min low from) (int_max high to)
-    ∙ both_true (nat_lt (unsigned_abs (int_min low from)) (2 ^ 63)) (nat_lt (unsigned_abs (int_max high to)) (2 ^ 63)) (min_small low from (2 ^ 63) first.0 second.0) (max_small high to (2 ^ 63) first.1 second.1)
+    ∙ and_from (nat_lt (unsigned_abs (int_min low from)) (2 ^ 63)) (nat_lt (unsigned_abs (int_max high to)) (2 ^ 63)) (min_small low from (2 ^ 63) first.0 second.0) (max_small high to (2 ^ 63) first.1 second.1)
 levels_bounds (one.Range low high) one.Number p q = fold_number Bool bounds_fit_step
 levels_bounds one.Number (one.Range from to) p q = fold_number Bool bounds_fit_step
 levels_bounds one.Number one.Number p q = fold_number Bool bounds_fit_step

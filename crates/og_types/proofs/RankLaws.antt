@@ -15,9 +15,10 @@ use Rattle.std.proofs.lemmas.Int.{ints}
 use Rattle.std.proofs.lemmas.List.FromFn.{length-map-range_with_len}
 use Rattle.std.proofs.lemmas.Option.{slice_get_within, slice_get-map, slice_get-get_or, get_or_from_slice_get}
 use Rattle.std.proofs.lemmas.Cmp.{nat_cmp_total, tied_itself}
+use Rattle.std.proofs.lemmas.Bool.{and_parts}
 use Rattle.og_frac.specs.Fraction as fraction
 use Rattle.og_frac.specs.Fraction.{Fraction, whole, over_positive}
-use Rattle.og_frac.specs.Orders.{order_less, order_equal, order_reversed}
+use Rattle.og_frac.specs.laws.Orders.{order_less, order_equal, order_reversed}
 use Rattle.og_types.specs.declared.value.Value.{Value}
 use Rattle.og_types.specs.declared.value.Value.TheOpen.{Value-F}
 use Rattle.og_types.specs.declared.value.Value.TheOpen as val
@@ -31,16 +32,16 @@ use Rattle.og_types.specs.declared.ty.Ty.TheFolds.{fold-roll-Ty, map-Ty, ind-Ty}
 use Rattle.og_types.specs.declared.ty.Ty.TheVariants as ty
 use Rattle.og_types.specs.Ty.{holds, holds_step, is_finite, is_finite_step, is_between}
 use Rattle.og_types.specs.Value.{same, order}
-use Rattle.og_types.specs.ValueOrder.{order_cases, order_flags, order_numbers}
+use Rattle.og_types.specs.laws.ValueOrder.{order_cases, order_flags, order_numbers}
 use Rattle.og_types.proofs.FitsLaws.{holds_at}
 use Rattle.og_types.proofs.ValueLevels.{order_tuples}
-use Rattle.og_types.specs.ValueEquality.{same_equal, same_decides, and_true}
+use Rattle.og_types.specs.laws.ValueEquality.{same_equal, same_decides}
 use Rattle.og_types.specs.Values.{values_of, joint_values_of, rank_of, joint_rank_of, place_of, span, IsSmall, AreSmall}
 use Rattle.og_types.proofs.TyLevels.{type_induction, values_enum, values_bool, values_range, values_tuple, values_number}
-use Rattle.og_types.proofs.Products.{product_from, place_product, place_shorter, mapped_from, together}
-use Rattle.og_types.proofs.PlaceItems.{counted_at}
-use Rattle.og_types.proofs.Ranks.{rank_at, rank_by, rank_enum_there, rank_bool, rank_range, rank_tuple}
-use Rattle.og_types.proofs.Gaps.{true_le, within_span, gap_of}
+use Rattle.og_types.proofs.Tuples.{product_from, place_product, place_shorter, mapped_from, together}
+use Rattle.og_types.proofs.ValuesOf.{range_map_at}
+use Rattle.og_types.proofs.RankOf.{rank_at, rank_by, rank_enum_there, rank_bool, rank_range, rank_tuple}
+use Rattle.og_types.proofs.Span.{true_le, within_span, gap_of}
 
 -- what stands at the place that is found passes
 place_found : {X : Type 0} (test : X → Bool) (xs : List X) (k : ℕ) → place_of test xs ≡ Some k → (x : X) × (slice_get xs k ≡ Some x) × (test x ≡ true)
@@ -90,7 +91,7 @@ enum_place : (family cases k : ℕ) (v : Value) → slice_get (values_of (ty.Enu
 enum_place family cases k v e =
     let listed : slice_get (map (λ i. value.Case family i) (range_with_len 0 cases)) k ≡ Some v = (λ j. slice_get (sym (values_enum family cases) j) k) ∙ e in
     let within : k < cases = omega (arith, slice_get_within (map (λ i. value.Case family i) (range_with_len 0 cases)) k v listed, length-map-range_with_len (λ i. value.Case family i) 0 cases) in
-    let both : Some (value.Case family k) ≡ Some v = sym (counted_at (λ i. value.Case family i) cases k within) ∙ listed in
+    let both : Some (value.Case family k) ≡ Some v = sym (range_map_at (λ i. value.Case family i) cases k within) ∙ listed in
     (within, cc)
 
 bool_place : (k : ℕ) (v : Value) → slice_get (values_of ty.Bool) k ≡ Some v → (flag : Bool) × (k ≡ (if flag then 1 else 0)) × (value.Flag flag ≡ v)
@@ -105,7 +106,7 @@ range_place : (low high : ℤ) (k : ℕ) (v : Value) → slice_get (values_of (t
 range_place low high k v e =
     let listed : slice_get (map (λ i. value.Number (whole (low +ℤ pos i))) (range_with_len 0 (span low high))) k ≡ Some v = (λ j. slice_get (sym (values_range low high) j) k) ∙ e in
     let within : k < span low high = omega (arith, slice_get_within (map (λ i. value.Number (whole (low +ℤ pos i))) (range_with_len 0 (span low high))) k v listed, length-map-range_with_len (λ i. value.Number (whole (low +ℤ pos i))) 0 (span low high)) in
-    let both : Some (value.Number (whole (low +ℤ pos k))) ≡ Some v = sym (counted_at (λ i. value.Number (whole (low +ℤ pos i))) (span low high) k within) ∙ listed in
+    let both : Some (value.Number (whole (low +ℤ pos k))) ≡ Some v = sym (range_map_at (λ i. value.Number (whole (low +ℤ pos i))) (span low high) k within) ∙ listed in
     (within, cc)
 
 tuple_place : (ts : List Ty) (k : ℕ) (v : Value) → slice_get (values_of (ty.Tuple ts)) k ≡ Some v → (vs : List Value) × (slice_get (joint_values_of ts) k ≡ Some vs) × (v ≡ value.Tuple vs)
@@ -165,7 +166,7 @@ parts_there [] [] f = refl
 parts_there [] (v ∷ vs) f = refl
 parts_there (e ∷ es) [] f = ap is_some (place_shorter (values_of e.0) (joint_values_of (map (λ e. e.0) es)))
 parts_there (e ∷ es) (v ∷ vs) f =
-    let finite = and_true (is_finite e.0) (list_all (λ part. part) (map is_finite (map (λ e. e.0) es))) f in
+    let finite = and_parts (is_finite e.0) (list_all (λ part. part) (map is_finite (map (λ e. e.0) es))) f in
     ap is_some (place_product v vs (values_of e.0) (joint_values_of (map (λ e. e.0) es)))
     ∙ both_there (length (joint_values_of (map (λ e. e.0) es))) (rank_of e.0 v) (joint_rank_of (map (λ e. e.0) es) vs)
     ∙ (λ j. e.1 v finite.0 j && parts_there es vs finite.1 j)
@@ -294,7 +295,7 @@ joint_rank_there [] [] f = refl
 joint_rank_there [] (v ∷ vs) f = refl
 joint_rank_there (t ∷ ts) [] f = ap is_some (place_shorter (values_of t) (joint_values_of ts))
 joint_rank_there (t ∷ ts) (v ∷ vs) f =
-    let finite = and_true (is_finite t) (list_all is_finite ts) f in
+    let finite = and_parts (is_finite t) (list_all is_finite ts) f in
     ap is_some (place_product v vs (values_of t) (joint_values_of ts))
     ∙ both_there (length (joint_values_of ts)) (rank_of t v) (joint_rank_of ts vs) ∙ (λ j. rank_there t v finite.0 j && joint_rank_there ts vs finite.1 j)
 

@@ -17,7 +17,7 @@ use Rattle.og_types.specs.declared.ty.Ty.TheFolds.{fold-Ty, fold-roll-Ty, map-Ty
 use Rattle.og_types.specs.declared.ty.Ty.TheVariants as ty
 use Rattle.og_types.specs.Ty.{same, same_step, fits, fits_step, holds, holds_step, is_finite, is_finite_step, bounds_fit, bounds_fit_step, join, join_step, joins}
 use Rattle.og_types.specs.Values.{values_of, values_step, joint_values_of, span}
-use Rattle.og_types.proofs.Lists.{pointwise-map}
+use Rattle.og_types.proofs.Pointwise.{pointwise-map_first}
 
 -- each of the parts beside its proof
 proofs_of : (P : Ty → Type 0) (es : List ((t : Ty) × P t)) → AllByRecursion P (map (λ e. e.0) es)
@@ -57,14 +57,14 @@ fold_tuples A step ts us =
     (λ i. fold_tuple (Ty → A) (λ t u. step t (out-Ty u)) ts i (ty.Tuple us)) ∙ ap (step (one.Tuple (map (fold-Ty (Ty → A) (λ t u. step t (out-Ty u))) ts))) (ty.outs-Tuple us)
 
 pub same_tuples : (ts us : List Ty) → same (ty.Tuple ts) (ty.Tuple us) ≡ pointwise same ts us
-same_tuples ts us = fold_tuples Bool same_step ts us ∙ pointwise-map same (λ part other. part other) ts us
+same_tuples ts us = fold_tuples Bool same_step ts us ∙ pointwise-map_first same (λ part other. part other) ts us
 
 pub fits_tuples : (ts us : List Ty) → fits (ty.Tuple ts) (ty.Tuple us) ≡ pointwise fits ts us
-fits_tuples ts us = fold_tuples Bool fits_step ts us ∙ pointwise-map fits (λ part other. part other) ts us
+fits_tuples ts us = fold_tuples Bool fits_step ts us ∙ pointwise-map_first fits (λ part other. part other) ts us
 
 pub holds_tuples : (ts : List Ty) (vs : List Value) → holds (ty.Tuple ts) (value.Tuple vs) ≡ pointwise holds ts vs
 holds_tuples ts vs =
-    (λ i. fold_tuple (Value → Bool) (λ t v. holds_step t (out-Value v)) ts i (value.Tuple vs)) ∙ ap (holds_step (one.Tuple (map holds ts))) (value.outs-Tuple vs) ∙ pointwise-map holds (λ part v. part v) ts vs
+    (λ i. fold_tuple (Value → Bool) (λ t v. holds_step t (out-Value v)) ts i (value.Tuple vs)) ∙ ap (holds_step (one.Tuple (map holds ts))) (value.outs-Tuple vs) ∙ pointwise-map_first holds (λ part v. part v) ts vs
 
 pub join_tuples : (ts us : List Ty) → join (ty.Tuple ts) (ty.Tuple us) ≡ option_map ty.Tuple (joins (map join ts) us)
 join_tuples ts us = fold_tuples (Option Ty) join_step ts us
@@ -92,9 +92,6 @@ values_number = fold_number (List Value) values_step
 
 pub is_finite_enum : (family cases : ℕ) → is_finite (ty.Enum family cases) ≡ true
 is_finite_enum family cases = fold_enum Bool is_finite_step family cases
-
-pub is_finite_bool : is_finite ty.Bool ≡ true
-is_finite_bool = fold_bool Bool is_finite_step
 
 pub is_finite_range : (low high : ℤ) → is_finite (ty.Range low high) ≡ true
 is_finite_range low high = fold_range Bool is_finite_step low high

@@ -1,7 +1,5 @@
 pub mod Value
-pub mod ValueEquality
 pub mod Ty
-pub mod TyEquality
 pub mod Values
 pub mod Names
-pub mod ValueOrder
+pub mod laws

@@ -21,12 +21,12 @@ case_of enums family index = option_and_then (λ f. slice_get f.cases index) (sl
 abbrev pub with_commas : List (List ℕ) → List ℕ
 with_commas = join_by (λ part. part) (codes ", ")
 
-abbrev pub shown_step : Enums → Value-F (List ℕ) → List ℕ
-shown_step enums (one.Case family index) = unwrap_or (case_of enums family index) []
-shown_step enums (one.Flag flag) = if flag then codes "true" else codes "false"
-shown_step enums (one.Number number) = text number
-shown_step enums (one.Tuple parts) = codes "(" ++ with_commas parts ++ codes ")"
+abbrev pub text_step : Enums → Value-F (List ℕ) → List ℕ
+text_step enums (one.Case family index) = unwrap_or (case_of enums family index) []
+text_step enums (one.Flag flag) = if flag then codes "true" else codes "false"
+text_step enums (one.Number number) = text number
+text_step enums (one.Tuple parts) = codes "(" ++ with_commas parts ++ codes ")"
 
 -- a case by its name, true or false, a number, a tuple's values in parentheses
-abbrev pub shown : Enums → Value → List ℕ
-shown enums = fold-Value (List ℕ) (shown_step enums)
+abbrev pub text_of : Enums → Value → List ℕ
+text_of enums = fold-Value (List ℕ) (text_step enums)

@@ -47,11 +47,13 @@ fits = fold-Ty (Ty → Bool) (λ t u. fits_step t (out-Ty u))
 -- the joins of the types place by place, where each is there and the lists are as long
 abbrev pub joins : List (Ty → Option Ty) → List Ty → Option (List Ty)
 joins [] [] = Some []
-joins (part ∷ parts) (other ∷ others) = option_and_then (λ t. option_map (λ ts. t ∷ ts) (joins parts others)) (part other)
+joins (part ∷ parts) (other ∷ others) =
+    option_and_then (λ t. option_map (λ ts. t ∷ ts) (joins parts others)) (part other)
 joins _ _ = None
 
 abbrev pub join_step : Ty-F (Ty → Option Ty) → Ty-F Ty → Option Ty
-join_step (one.Enum family cases) (one.Enum other count) = if (family == other) && (cases == count) then Some (ty.Enum family cases) else None
+join_step (one.Enum family cases) (one.Enum other count) =
+    if (family == other) && (cases == count) then Some (ty.Enum family cases) else None
 join_step one.Bool one.Bool = Some ty.Bool
 join_step (one.Range low high) (one.Range from to) = Some (ty.Range (int_min low from) (int_max high to))
 join_step (one.Range low high) one.Number = Some ty.Number

@@ -40,8 +40,8 @@ abbrev pub joint_values_of : List Ty → List (List Value)
 joint_values_of types = tuples (map values_of types)
 
 -- how many there are, or 4,097 where there are more; of what isn't finite there is no count
-abbrev pub counted : Bool → ℕ → Option ℕ
-counted finite many = if finite then Some (min many 4097) else None
+abbrev pub capped_count : Bool → ℕ → Option ℕ
+capped_count finite many = if finite then Some (min many 4097) else None
 
 -- a finite type of at most 4,096 values
 pub record IsSmall (t : Ty) : Type 0 where

@@ -1,7 +1,7 @@
 ghost use Rattle.std.specs.Prelude.{◌≡◌, ◌≤◌, ◌*◌, min, length, IfSome};
 ghost use Rattle.std.specs.List.{list_all};
 ghost use Rattle.og_types.specs.Ty.{is_finite};
-ghost use Rattle.og_types.specs.Values.{values_of, joint_values_of, counted, span, IsSmall, AreSmall};
+ghost use Rattle.og_types.specs.Values.{values_of, joint_values_of, capped_count, span, IsSmall, AreSmall};
 
 use crate::ty::Ty;
 use og_list::List;
@@ -12,9 +12,9 @@ const ENOUGH: u32 = 4097;
 impl Ty {
     /// How many values the type has, or 4,097 where there are more. `None` where a number stands in
     /// the type.
-    #[tactic(auto, using(crate::proofs::Counts::small_counted))]
+    #[tactic(auto, using(crate::proofs::CappedCount::small_from_count))]
     pub fn count(&self) -> Option<u32>
-        ensures many { result ≡ counted (is_finite self.now) (length (values_of self.now)) }
+        ensures many { result ≡ capped_count (is_finite self.now) (length (values_of self.now)) }
         ensures at_most { IfSome result (λ n. n ≤ 4097) }
         ensures small { IfSome result (λ n. n ≤ 4096 → IsSmall self.now) }
     {
@@ -23,9 +23,9 @@ impl Ty {
 
     // `count`, which adds what follows from it.
     #[cycle(counting)]
-    #[tactic(auto, using(crate::proofs::Counts::counted_tuple, crate::proofs::Counts::counted_enum, crate::proofs::Counts::counted_range))]
+    #[tactic(auto, using(crate::proofs::CappedCount::capped_counts))]
     fn many(&self) -> Option<u32>
-        ensures many { result ≡ counted (is_finite self.now) (length (values_of self.now)) }
+        ensures many { result ≡ capped_count (is_finite self.now) (length (values_of self.now)) }
         ensures at_most { IfSome result (λ n. n ≤ 4097) }
     {
         match self {
@@ -55,9 +55,9 @@ fn count_between(low: i64, high: i64) -> u32
 
 /// How many lists of one value of each type there are, or 4,097 where there are more. `None` where a
 /// number stands in a type.
-#[tactic(auto, using(crate::proofs::Counts::small_joint_counted))]
+#[tactic(auto, using(crate::proofs::CappedCount::small_from_joint_count))]
 pub fn joint_count(types: &List<Ty>) -> Option<u32>
-    ensures many { result ≡ counted (list_all is_finite types.now) (length (joint_values_of types.now)) }
+    ensures many { result ≡ capped_count (list_all is_finite types.now) (length (joint_values_of types.now)) }
     ensures at_most { IfSome result (λ n. n ≤ 4097) }
     ensures small { IfSome result (λ n. n ≤ 4096 → AreSmall types.now) }
 {
@@ -67,7 +67,7 @@ pub fn joint_count(types: &List<Ty>) -> Option<u32>
 // `joint_count`, which adds what follows from it.
 #[cycle(counting)]
 fn joint_many(types: &List<Ty>) -> Option<u32>
-    ensures many { result ≡ counted (list_all is_finite types.now) (length (joint_values_of types.now)) }
+    ensures many { result ≡ capped_count (list_all is_finite types.now) (length (joint_values_of types.now)) }
     ensures at_most { IfSome result (λ n. n ≤ 4097) }
 {
     let mut many = 1;

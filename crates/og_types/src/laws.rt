@@ -24,9 +24,11 @@ pub fn listing()
 
 /// The same of the lists of one value of each type. A tuple's values are these, as tuples.
 pub fn joint_listing()
-    ensures each { (ts : List Ty) (vs : List Value) → list_all is_finite ts ≡ true → (pointwise holds ts vs ≡ true) ↔ Contains (joint_values_of ts) vs }
+    ensures each { (ts : List Ty) (vs : List Value) → list_all is_finite ts ≡ true
+        → (pointwise holds ts vs ≡ true) ↔ Contains (joint_values_of ts) vs }
     ensures once { (ts : List Ty) → AllPairs (λ vs ws. vs ≢ ws) (joint_values_of ts) }
-    ensures many { (t : Ty) (ts : List Ty) → length (joint_values_of (t ∷ ts)) ≡ length (values_of t) * length (joint_values_of ts) }
+    ensures many { (t : Ty) (ts : List Ty) → length (joint_values_of (t ∷ ts))
+        ≡ length (values_of t) * length (joint_values_of ts) }
     ensures tuples { (ts : List Ty) → values_of (ty.Tuple ts) ≡ map value.Tuple (joint_values_of ts) }
 {}
 
@@ -35,19 +37,29 @@ pub fn joint_listing()
 pub fn ranking()
     ensures places { (t : Ty) (v : Value) (k : ℕ) → (rank_of t v ≡ Some k) ↔ (slice_get (values_of t) k ≡ Some v) }
     ensures there { (t : Ty) (v : Value) → is_finite t ≡ true → is_some (rank_of t v) ≡ holds t v }
-    ensures equal { (t : Ty) (v w : Value) → is_finite t ≡ true → holds t v ≡ true → holds t w ≡ true → (rank_of t v ≡ rank_of t w) ↔ (v ≡ w) }
-    ensures ordered { (t : Ty) (v w : Value) (i j : ℕ) → rank_of t v ≡ Some i → rank_of t w ≡ Some j → order v w ≡ nat_cmp i j }
+    ensures equal { (t : Ty) (v w : Value) → is_finite t ≡ true → holds t v ≡ true → holds t w ≡ true
+        → (rank_of t v ≡ rank_of t w) ↔ (v ≡ w) }
+    ensures ordered { (t : Ty) (v w : Value) (i j : ℕ) → rank_of t v ≡ Some i → rank_of t w ≡ Some j
+        → order v w ≡ nat_cmp i j }
 {}
 
 /// The same of lists of one value of each type, of which the first type's go slowest. Tuples have the
 /// ranks of their lists of components.
 pub fn joint_ranking()
-    ensures places { (ts : List Ty) (vs : List Value) (k : ℕ) → (joint_rank_of ts vs ≡ Some k) ↔ (slice_get (joint_values_of ts) k ≡ Some vs) }
-    ensures there { (ts : List Ty) (vs : List Value) → list_all is_finite ts ≡ true → is_some (joint_rank_of ts vs) ≡ pointwise holds ts vs }
-    ensures equal { (ts : List Ty) (vs ws : List Value) (k : ℕ) → joint_rank_of ts vs ≡ Some k → joint_rank_of ts ws ≡ Some k → vs ≡ ws }
-    ensures ordered { (ts : List Ty) (vs ws : List Value) (i j : ℕ) → joint_rank_of ts vs ≡ Some i → joint_rank_of ts ws ≡ Some j → slice_cmp order vs ws ≡ nat_cmp i j }
-    ensures parts { (t : Ty) (ts : List Ty) (v : Value) (vs : List Value) (i j : ℕ) → rank_of t v ≡ Some i → joint_rank_of ts vs ≡ Some j → joint_rank_of (t ∷ ts) (v ∷ vs) ≡ Some (i * length (joint_values_of ts) + j) }
-    ensures first_slowest { (t : Ty) (ts : List Ty) (v w : Value) (vs ws : List Value) (i j k l m n : ℕ) → rank_of t v ≡ Some i → rank_of t w ≡ Some j → joint_rank_of ts vs ≡ Some k → joint_rank_of ts ws ≡ Some l → joint_rank_of (t ∷ ts) (v ∷ vs) ≡ Some m → joint_rank_of (t ∷ ts) (w ∷ ws) ≡ Some n → nat_cmp m n ≡ ordering_then (nat_cmp i j) (nat_cmp k l) }
+    ensures places { (ts : List Ty) (vs : List Value) (k : ℕ)
+        → (joint_rank_of ts vs ≡ Some k) ↔ (slice_get (joint_values_of ts) k ≡ Some vs) }
+    ensures there { (ts : List Ty) (vs : List Value) → list_all is_finite ts ≡ true
+        → is_some (joint_rank_of ts vs) ≡ pointwise holds ts vs }
+    ensures equal { (ts : List Ty) (vs ws : List Value) (k : ℕ) → joint_rank_of ts vs ≡ Some k
+        → joint_rank_of ts ws ≡ Some k → vs ≡ ws }
+    ensures ordered { (ts : List Ty) (vs ws : List Value) (i j : ℕ) → joint_rank_of ts vs ≡ Some i
+        → joint_rank_of ts ws ≡ Some j → slice_cmp order vs ws ≡ nat_cmp i j }
+    ensures parts { (t : Ty) (ts : List Ty) (v : Value) (vs : List Value) (i j : ℕ) → rank_of t v ≡ Some i
+        → joint_rank_of ts vs ≡ Some j → joint_rank_of (t ∷ ts) (v ∷ vs) ≡ Some (i * length (joint_values_of ts) + j) }
+    ensures first_slowest { (t : Ty) (ts : List Ty) (v w : Value) (vs ws : List Value) (i j k l m n : ℕ)
+        → rank_of t v ≡ Some i → rank_of t w ≡ Some j → joint_rank_of ts vs ≡ Some k
+        → joint_rank_of ts ws ≡ Some l → joint_rank_of (t ∷ ts) (v ∷ vs) ≡ Some m
+        → joint_rank_of (t ∷ ts) (w ∷ ws) ≡ Some n → nat_cmp m n ≡ ordering_then (nat_cmp i j) (nat_cmp k l) }
     ensures tuples { (ts : List Ty) (vs : List Value) → rank_of (ty.Tuple ts) (value.Tuple vs) ≡ joint_rank_of ts vs }
 {}
 
@@ -63,12 +75,14 @@ pub fn fitting()
 /// in common. Its bounds fit where those of both types do.
 pub fn joining()
     ensures fits_both { (t u w : Ty) → join t u ≡ Some w → (fits t w ≡ true) × (fits u w ≡ true) }
-    ensures least { (t u w : Ty) → fits t w ≡ true → fits u w ≡ true → IsSomeAnd (join t u) (λ least. fits least w ≡ true) }
+    ensures least { (t u w : Ty) → fits t w ≡ true → fits u w ≡ true
+        → IsSomeAnd (join t u) (λ least. fits least w ≡ true) }
     ensures none { (t u : Ty) → (join t u ≡ None) ↔ ((w : Ty) → fits t w ≡ true → fits u w ≡ true → ⊥) }
     ensures idempotent { (t : Ty) → join t t ≡ Some t }
     ensures commute { (t u : Ty) → join t u ≡ join u t }
     ensures fits_exactly { (t u : Ty) → (fits t u ≡ true) ↔ (join t u ≡ Some u) }
-    ensures bounds { (t u w : Ty) → bounds_fit t ≡ true → bounds_fit u ≡ true → join t u ≡ Some w → bounds_fit w ≡ true }
+    ensures bounds { (t u w : Ty) → bounds_fit t ≡ true → bounds_fit u ≡ true → join t u ≡ Some w
+        → bounds_fit w ≡ true }
 {}
 
 /// The order of values is total, and it finds two values equal exactly where they are. Cases go by
@@ -78,8 +92,10 @@ pub fn ordering()
     ensures reversed { (v w : Value) → order v w ≡ ordering_reverse (order w v) }
     ensures equal { (v w : Value) → (order v w ≡ Equal) ↔ (v ≡ w) }
     ensures transitive { (u v w : Value) → order u v ≡ Less → order v w ≡ Less → order u w ≡ Less }
-    ensures numbers { (p q : Fraction) → IsInLowestTerms p → IsInLowestTerms q → order (value.Number p) (value.Number q) ≡ fraction.order p q }
-    ensures cases { (family index other at : ℕ) → order (value.Case family index) (value.Case other at) ≡ ordering_then (nat_cmp family other) (nat_cmp index at) }
+    ensures numbers { (p q : Fraction) → IsInLowestTerms p → IsInLowestTerms q
+        → order (value.Number p) (value.Number q) ≡ fraction.order p q }
+    ensures cases { (family index other at : ℕ) → order (value.Case family index) (value.Case other at)
+        ≡ ordering_then (nat_cmp family other) (nat_cmp index at) }
     ensures flags { (a b : Bool) → order (value.Flag a) (value.Flag b) ≡ bool_cmp a b }
     ensures tuples { (vs ws : List Value) → order (value.Tuple vs) (value.Tuple ws) ≡ slice_cmp order vs ws }
 {

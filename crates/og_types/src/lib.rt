@@ -4,19 +4,16 @@
 mod count;
 mod enums;
 pub mod laws;
-mod listed;
+mod print;
 mod rank;
-mod shown;
 mod ty;
 mod value;
+mod values;
 
 pub use count::joint_count;
 pub use enums::{Enums, Family};
-pub use listed::{joint_at_rank, joint_values};
+pub use print::show;
 pub use rank::joint_rank;
-pub use shown::show;
 pub use ty::{Ty, all_bounds_fit, all_fit, all_hold, copy_types, join_all};
 pub use value::{Value, copy_values};
-
-#[cfg(test)]
-mod tests;
+pub use values::{joint_at_rank, joint_values};

@@ -23,7 +23,7 @@ impl Ty {
 
     // `rank`, which adds what follows from it.
     #[cycle(ranking)]
-    #[tactic(auto, using(crate::proofs::Ranks::rank_at))]
+    #[tactic(auto, using(crate::proofs::RankOf::rank_at))]
     fn place(&self, v: &Value) -> Option<u32>
         requires small { IsSmall self.now }
         ensures { result ≡ rank_of self.now v.now }
@@ -45,7 +45,7 @@ impl Ty {
 }
 
 /// The place of the number among the whole numbers from the first to the second.
-#[tactic(auto, using(crate::proofs::Gaps::between_gap))]
+#[tactic(auto, using(crate::proofs::Span::between_gap))]
 fn place_between(low: i64, high: i64, number: &Frac) -> Option<u32>
     requires few { span low high ≤ 4096 }
     ensures { result ≡ (if is_between low high number.now then Some (int_gap low number.now.numerator) else None) }

@@ -272,14 +272,14 @@ pub fn all_hold(types: &List<Ty>, values: &List<Value>) -> bool
 /// equal types.
 impl PartialEq for Ty {
     ghost use Rattle.og_types.specs.Ty.{same};
-    ghost use Rattle.og_types.specs.TyEquality.{same_decides};
+    ghost use Rattle.og_types.specs.laws.TyEquality.{same_decides};
     ghost use Rattle.std.specs.Cmp.{decided, partial_equiv_from_equiv};
 
     ghost eq = { same };
 
     ghost laws = { partial_equiv_from_equiv (decided same same_decides) };
 
-    #[tactic(auto, using(crate::specs::TyEquality::same_decides))]
+    #[tactic(auto, using(crate::specs::laws::TyEquality::same_decides))]
     fn eq(&self, other: &Ty) -> bool
         ensures same { result ≡ same self.now other.now }
         ensures equal { IsTrue result ↔ (self.now ≡ other.now) }
@@ -290,7 +290,7 @@ impl PartialEq for Ty {
 
 impl Eq for Ty {
     ghost use Rattle.og_types.specs.Ty.{same};
-    ghost use Rattle.og_types.specs.TyEquality.{same_decides};
+    ghost use Rattle.og_types.specs.laws.TyEquality.{same_decides};
     ghost use Rattle.std.specs.Cmp.{decided};
 
     ghost laws = { decided same same_decides };

@@ -131,14 +131,14 @@ fn order_all(values: &List<Value>, others: &List<Value>) -> Ordering
 /// equal values.
 impl PartialEq for Value {
     ghost use Rattle.og_types.specs.Value.{same};
-    ghost use Rattle.og_types.specs.ValueEquality.{same_decides};
+    ghost use Rattle.og_types.specs.laws.ValueEquality.{same_decides};
     ghost use Rattle.std.specs.Cmp.{decided, partial_equiv_from_equiv};
 
     ghost eq = { same };
 
     ghost laws = { partial_equiv_from_equiv (decided same same_decides) };
 
-    #[tactic(auto, using(crate::specs::ValueEquality::same_decides))]
+    #[tactic(auto, using(crate::specs::laws::ValueEquality::same_decides))]
     fn eq(&self, other: &Value) -> bool
         ensures same { result ≡ same self.now other.now }
         ensures equal { IsTrue result ↔ (self.now ≡ other.now) }
@@ -149,7 +149,7 @@ impl PartialEq for Value {
 
 impl Eq for Value {
     ghost use Rattle.og_types.specs.Value.{same};
-    ghost use Rattle.og_types.specs.ValueEquality.{same_decides};
+    ghost use Rattle.og_types.specs.laws.ValueEquality.{same_decides};
     ghost use Rattle.std.specs.Cmp.{decided};
 
     ghost laws = { decided same same_decides };
@@ -159,7 +159,7 @@ impl Eq for Value {
 impl Ord for Value {
     ghost use Rattle.std.proofs.Common.{refl};
     ghost use Rattle.og_types.specs.Value.{order};
-    ghost use Rattle.og_types.specs.ValueOrder.{order_total, order_equal};
+    ghost use Rattle.og_types.specs.laws.ValueOrder.{order_total, order_equal};
 
     ghost cmp = { order };
 
@@ -182,7 +182,7 @@ impl PartialOrd for Value {
     ghost use Rattle.std.specs.Cmp.{partial_order_from_agreeing_total};
     ghost use Rattle.std.specs.Ordering.{as_partial_cmp};
     ghost use Rattle.og_types.specs.Value.{order};
-    ghost use Rattle.og_types.specs.ValueOrder.{order_total, order_equal};
+    ghost use Rattle.og_types.specs.laws.ValueOrder.{order_total, order_equal};
 
     ghost partial_cmp = { as_partial_cmp order };
 

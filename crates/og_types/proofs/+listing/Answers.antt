@@ -6,37 +6,37 @@ use Rattle.og_types.specs.declared.value.Value.TheVariants as value
 use Rattle.og_types.specs.Ty.{bounds_fit}
 use Rattle.std.specs.Prelude.{slice_get}
 use Rattle.og_types.specs.Values.{IsSmall, values_of}
-use Rattle.og_types.proofs.Joint.{part_at, all_at, small_tuple, bounds_tuple}
-use Rattle.og_types.proofs.PlaceItems.{joint_at_goes, digit_there, at_tuple}
+use Rattle.og_types.proofs.JointRankOf.{part_at, all_at, small_tuple, bounds_tuple}
+use Rattle.og_types.proofs.ValuesOf.{joint_at_goes, digit_there, at_tuple}
 use Rattle.og_types.proofs.+listing.Goals as goal
 
-pub listed::joint_item-nonzero_div-left : goal.listed::joint_item-nonzero_div-left
-listed::joint_item-nonzero_div-left t c =
+pub values::joint_item-nonzero_div-left : goal.values::joint_item-nonzero_div-left
+values::joint_item-nonzero_div-left t c =
     let inside = c.types.invariant in
     let part = part_at c.args.types.now c.types.ty-index c.ty-item.result c.types.weight c.in-Some.count (omega (arith, ap length c.as_slice-ty-items.ensures)) (cc) inside.finite inside.weighs (omega (arith, inside.within)) inside.few (sym c.in-Some.ensures.many) in
     part.some_after
 
-pub listed::joint_item-item-requires : goal.listed::joint_item-item-requires
-listed::joint_item-item-requires t c =
+pub values::joint_item-item-requires : goal.values::joint_item-item-requires
+values::joint_item-item-requires t c =
     let inside = c.types.invariant in
     let part = part_at c.args.types.now c.types.ty-index c.ty-item.result c.types.weight c.in-Some.count (omega (arith, ap length c.as_slice-ty-items.ensures)) (cc) inside.finite inside.weighs (omega (arith, inside.within)) inside.few (sym c.in-Some.ensures.many) in
     let bounds = all_at bounds_fit c.args.types.now c.types.ty-index c.ty-item.result (omega (arith, ap length c.as_slice-ty-items.ensures)) (cc) inside.bounds in
     (search (rules, the_lemmas), (part.small, bounds.0))
 
-pub listed::joint_item-returns-in-None-2 : goal.listed::joint_item-returns-in-None-2
-listed::joint_item-returns-in-None-2 t c =
+pub values::joint_item-returns-in-None-2 : goal.values::joint_item-returns-in-None-2
+values::joint_item-returns-in-None-2 t c =
     let inside = c.types.invariant in
     let part = part_at c.args.types.now c.types.ty-index c.ty-item.result c.types.weight c.in-Some.count (omega (arith, ap length c.as_slice-ty-items.ensures)) (cc) inside.finite inside.weighs (omega (arith, inside.within)) inside.few (sym c.in-Some.ensures.many) in
     absurd (digit_there c.ty-item.result c.types.left c.types.weight c.in-Some.count (c.types.weight / c.in-Some.count) part.count_is part.whole inside.within part.some_after (sym c.in-None-2.is ∙ c.in_ok-value.ensures))
 
-pub listed::joint_item-nonzero_rem-left : goal.listed::joint_item-nonzero_rem-left
-listed::joint_item-nonzero_rem-left t c =
+pub values::joint_item-nonzero_rem-left : goal.values::joint_item-nonzero_rem-left
+values::joint_item-nonzero_rem-left t c =
     let inside = c.types.invariant in
     let part = part_at c.args.types.now c.types.ty-index c.ty-item.result c.types.weight c.in-Some.count (omega (arith, ap length c.as_slice-ty-items.ensures)) (cc) inside.finite inside.weighs (omega (arith, inside.within)) inside.few (sym c.in-Some.ensures.many) in
     part.some_after
 
-pub listed::joint_item-types-preserved : goal.listed::joint_item-types-preserved
-listed::joint_item-types-preserved t c =
+pub values::joint_item-types-preserved : goal.values::joint_item-types-preserved
+values::joint_item-types-preserved t c =
     let inside = c.types.invariant in
     let part = part_at c.args.types.now c.types.ty-index c.ty-item.result c.types.weight c.in-Some.count (omega (arith, ap length c.as_slice-ty-items.ensures)) (cc) inside.finite inside.weighs (omega (arith, inside.within)) inside.few (sym c.in-Some.ensures.many) in
     let bounds = all_at bounds_fit c.args.types.now c.types.ty-index c.ty-item.result (omega (arith, ap length c.as_slice-ty-items.ensures)) (cc) inside.bounds in

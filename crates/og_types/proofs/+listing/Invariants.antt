@@ -6,8 +6,8 @@ use Rattle.og_types.specs.Ty.{is_finite, bounds_fit}
 use Rattle.og_types.specs.Values.{joint_values_of}
 use Rattle.og_types.proofs.+listing.Given as goal
 
-abbrev pub invariant-listed::joint_item-types : goal.invariant-listed::joint_item-types
-invariant-listed::joint_item-types l = record {
+abbrev pub invariant-values::joint_item-types : goal.invariant-values::joint_item-types
+invariant-values::joint_item-types l = record {
   rest : option_map (λ vs. l.all ++ vs) (slice_get (joint_values_of (drop l.ty-index l.types)) l.left) ≡ slice_get (joint_values_of l.types) l.r;
   weighs : l.weight ≡ length (joint_values_of (drop l.ty-index l.types));
   within : l.left < l.weight;

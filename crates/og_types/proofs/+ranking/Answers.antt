@@ -4,8 +4,8 @@ use Rattle.std.specs.Int.{w64}
 use Rattle.std.proofs.lemmas.Int.{to_z-of_z}
 use Rattle.og_types.specs.Values.{IsSmall, span}
 use Rattle.og_types.specs.declared.ty.Ty.TheViews.{the_lemmas}
-use Rattle.og_types.proofs.Joint.{part_at, joint_rank_short, joint_rank_goes, joint_rank_stops, row_at, small_range, small_tuple}
-use Rattle.og_types.proofs.Ranks.{rank_enum_there, rank_enum_other, rank_enum_past, rank_range, rank_tuple}
+use Rattle.og_types.proofs.JointRankOf.{part_at, joint_rank_short, joint_rank_goes, joint_rank_stops, row_at, small_range, small_tuple}
+use Rattle.og_types.proofs.RankOf.{rank_enum_there, rank_enum_other, rank_enum_past, rank_range, rank_tuple}
 use Rattle.og_types.proofs.+ranking.Goals as goal
 use Rattle.og_types.proofs.+ranking.Goals.{ty::Ty::place-else-family-of_family-via-then-family-of_family+else-index-cases, ty::Ty::place-else-family-of_family-via-else-family-of_family}
 

@@ -1,4 +1,4 @@
-use Rattle.og_frac.specs.Orders.{order_reversed, order_equal, order_less, order_transitive}
+use Rattle.og_frac.specs.laws.Orders.{order_reversed, order_equal, order_less, order_transitive}
 use Rattle.og_frac.proofs.TotalOrder.{total_order_is}
 use Rattle.og_frac.proofs.laws.orders.Goals as goal
 

@@ -31,7 +31,8 @@ the_weighed value = value
 
 -- the one field, as its pointer beside the value
 abbrev by_field : Former {0}
-by_field = via (pair (const (Ptr × Global)) this) Inside (λ X fields. ((fields.held.ptr, fields.held.alloc), fields.held.value))
+by_field = via (pair (const (Ptr × Global)) this) Inside (λ X fields.
+    ((fields.held.ptr, fields.held.alloc), fields.held.value))
     (λ X v. record { held = record { ptr = v.0.0; alloc = v.0.1; value = v.1 } }) (λ X fields. refl) (λ X v. refl)
 
 -- the same pointer to another value
@@ -46,8 +47,10 @@ module _ (A B : RattleType) (f : A.Denot → B.Denot) where
   unfolding part_of
   box_places alike = record {
     mir_same = λ i. (box_of (one_value A (alike.mir_same i) (λ _. ftrue) (λ _ _. nothing) gnil)).mir;
-    own_same = λ b i. (box_of (one_value A (alike.mir_same i) (alike.own_same b.value i) (alike.shr_same b.value i) gnil)).own_val (pointing b tt);
-    shr_same = λ b i. (box_of (one_value A (alike.mir_same i) (alike.own_same b.value i) (alike.shr_same b.value i) gnil)).shr_at (pointing b tt);
+    own_same = λ b i. (box_of (one_value A (alike.mir_same i) (alike.own_same b.value i)
+        (alike.shr_same b.value i) gnil)).own_val (pointing b tt);
+    shr_same = λ b i. (box_of (one_value A (alike.mir_same i) (alike.own_same b.value i)
+        (alike.shr_same b.value i) gnil)).shr_at (pointing b tt);
   }
 
   pub the_places : Alike A B f → Alike (outer.the_row A) (outer.the_row B) ((the_former this).map A.Denot B.Denot f)
@@ -57,5 +60,6 @@ module _ (A B : RattleType) (f : A.Denot → B.Denot) where
       (struct_places (inner.the_type A) (inner.the_type B) ((λ b. pointing b (f b.value)), tt) _ (λ d. refl) refl
       (laid _ _ _ (box_places alike), tt))
 
-  pub the_codes_placed : Recodes A B f → Recodes (outer.the_row A) (outer.the_row B) ((the_former this).map A.Denot B.Denot f)
+  pub the_codes_placed : Recodes A B f
+      → Recodes (outer.the_row A) (outer.the_row B) ((the_former this).map A.Denot B.Denot f)
   the_codes_placed same value = same value

@@ -37,7 +37,10 @@ the_items_listed X xs = list-listed X xs
 
 -- the one field, by way of the vector that it is
 abbrev by_field : Former {0}
-by_field = via (vec.the_former this Global) Inside (λ X fields. fields.held) (λ X v. record { held = v }) (λ X fields. refl) (λ X v. refl)
+by_field = via (vec.the_former this Global) Inside (λ X fields. fields.held) (λ X v. record {
+  held =
+      v;
+}) (λ X fields. refl) (λ X v. refl)
 
 module _ (A B : RattleType) (f : A.Denot → B.Denot) where
   pub the_places : Alike A B f → Alike (outer.the_row A) (outer.the_row B) ((the_former this).map A.Denot B.Denot f)
@@ -47,5 +50,6 @@ module _ (A B : RattleType) (f : A.Denot → B.Denot) where
       (struct_places (inner.the_type A) (inner.the_type B) (vec.mapped f, tt) _ (λ d. refl) refl
       (laid _ _ _ (vec.the_places heap.the_row ghosts A B f alike), tt))
 
-  pub the_codes_placed : Recodes A B f → Recodes (outer.the_row A) (outer.the_row B) ((the_former this).map A.Denot B.Denot f)
+  pub the_codes_placed : Recodes A B f
+      → Recodes (outer.the_row A) (outer.the_row B) ((the_former this).map A.Denot B.Denot f)
   the_codes_placed same xs = sym (code_map A.coded.code B.coded.code f (λ x. sym (same x)) xs)

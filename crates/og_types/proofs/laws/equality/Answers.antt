@@ -1,8 +1,8 @@
 use Rattle.std.specs.Cmp.Lexicographic.{pointwise_decides}
 use Rattle.og_types.specs.Value as value
 use Rattle.og_types.specs.Ty as ty
-use Rattle.og_types.specs.ValueEquality as values
-use Rattle.og_types.specs.TyEquality as types
+use Rattle.og_types.specs.laws.ValueEquality as values
+use Rattle.og_types.specs.laws.TyEquality as types
 use Rattle.og_types.proofs.laws.equality.Goals as goal
 
 pub returns-clause-values : goal.returns-clause-values

@@ -1,6 +1,6 @@
 use Rattle.og_types.specs.Values.{values_of, joint_values_of}
 use Rattle.og_types.proofs.TyLevels.{values_tuple}
-use Rattle.og_types.proofs.Products.{length_product}
+use Rattle.og_types.proofs.Tuples.{length_product}
 use Rattle.og_types.proofs.RankLaws.{each_joint, joint_once}
 use Rattle.og_types.proofs.laws.joint_listing.Goals as goal
 

@@ -1,7 +1,7 @@
 use Rattle.std.proofs.Common.{sym, refl}
 use Rattle.og_types.specs.declared.value.Value.TheVariants as value
 use Rattle.og_types.specs.declared.ty.Ty.TheVariants as ty
-use Rattle.og_types.proofs.Ranks.{rank_tuple}
+use Rattle.og_types.proofs.RankOf.{rank_tuple}
 use Rattle.og_types.proofs.RankLaws.{at_joint_rank, joint_rank_at_place, joint_rank_there, equal_joint_ranks, joint_ranks_ordered, rank_by_parts, first_slowest}
 use Rattle.og_types.proofs.laws.joint_ranking.Goals as goal
 

@@ -1,5 +1,5 @@
 use Rattle.std.proofs.Common.{◌∙◌}
-use Rattle.og_types.specs.ValueOrder.{order_reversed, order_decides, order_along, order_numbers, order_cases, order_flags}
+use Rattle.og_types.specs.laws.ValueOrder.{order_reversed, order_decides, order_along, order_numbers, order_cases, order_flags}
 use Rattle.og_types.proofs.ValueLevels.{order_tuples}
 use Rattle.og_types.proofs.laws.ordering.Goals as goal
 

@@ -1,6 +1,6 @@
 use Rattle.std.proofs.Common.{◌∙◌, sym, ap, arith, length}
 use Rattle.og_types.specs.Ty.{fits}
-use Rattle.og_types.proofs.Lists.{pointwise_goes, pointwise_stops}
+use Rattle.og_types.proofs.Pointwise.{pointwise_goes, pointwise_stops}
 use Rattle.og_types.proofs.ty.+fitting.Goals as goal
 
 pub all_fit-returns-then-not-fits : goal.all_fit-returns-then-not-fits

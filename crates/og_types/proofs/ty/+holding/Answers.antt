@@ -1,6 +1,6 @@
 use Rattle.std.proofs.Common.{◌∙◌, sym, ap, arith, length}
 use Rattle.og_types.specs.Ty.{holds}
-use Rattle.og_types.proofs.Lists.{pointwise_goes, pointwise_stops}
+use Rattle.og_types.proofs.Pointwise.{pointwise_goes, pointwise_stops}
 use Rattle.og_types.proofs.ty.+holding.Goals as goal
 
 pub all_hold-returns-then-not-holds : goal.all_hold-returns-then-not-holds

@@ -1,7 +1,7 @@
 use Rattle.std.proofs.Common.{◌∙◌, sym, ap, arith, rules, length}
 use Rattle.std.proofs.lemmas.List.{length-map}
 use Rattle.og_types.specs.Ty.{join}
-use Rattle.og_types.proofs.Lists.{joins_goes, joins_stops, joins_short}
+use Rattle.og_types.proofs.Joins.{joins_goes, joins_stops, joins_short}
 use Rattle.og_types.proofs.ty.+joining.Goals as goal
 
 pub join_all-returns-then-len : goal.join_all-returns-then-len

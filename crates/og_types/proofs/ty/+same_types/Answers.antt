@@ -1,6 +1,6 @@
 use Rattle.std.proofs.Common.{◌∙◌, sym, ap, arith, length}
 use Rattle.og_types.specs.Ty.{same}
-use Rattle.og_types.proofs.Lists.{pointwise_goes, pointwise_stops}
+use Rattle.og_types.proofs.Pointwise.{pointwise_goes, pointwise_stops}
 use Rattle.og_types.proofs.ty.+same_types.Goals as goal
 
 pub are_same-returns-then-not-is_same : goal.are_same-returns-then-not-is_same

@@ -1,7 +1,7 @@
 use Rattle.std.proofs.Common.{◌<◌, ◌∙◌, sym, ap, arith, length, nat_cmp, ◌≡◌}
 use Rattle.og_types.specs.Value.{order}
 use Rattle.std.proofs.lemmas.Option.{slice_get_within}
-use Rattle.og_types.proofs.Lists.{slice_cmp_goes, slice_cmp_stops, slice_cmp_ended}
+use Rattle.og_types.proofs.Pointwise.{slice_cmp_goes, slice_cmp_stops, slice_cmp_ended}
 use Rattle.og_types.proofs.value.+value_orders.Goals as goal
 
 pub order_all-returns-then-is_ne : goal.order_all-returns-then-is_ne

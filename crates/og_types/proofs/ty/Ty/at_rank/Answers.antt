@@ -1,5 +1,5 @@
 use Rattle.og_types.specs.Values.{values_of}
-use Rattle.og_types.proofs.PlaceItems.{found_within}
+use Rattle.og_types.proofs.ValuesOf.{found_within}
 use Rattle.og_types.proofs.ty.Ty.at_rank.Goals as goal
 
 pub returns-clause-there : goal.returns-clause-there

@@ -1,6 +1,6 @@
 use Rattle.std.proofs.Common.{◌∙◌, sym, rules}
 use Rattle.og_types.specs.Values.{values_of}
-use Rattle.og_types.proofs.PlaceItems.{take_goes}
+use Rattle.og_types.proofs.ValuesOf.{take_goes}
 use Rattle.og_types.proofs.ty.Ty.values.Goals as goal
 
 pub ranks-preserved : goal.ranks-preserved

@@ -1,5 +1,0 @@
-use Rattle.std.proofs.Common.{◌≡◌, take}
-use Rattle.og_list.proofs.tests.+expressions.Given as goal
-
-abbrev pub invariant-copy_exprs-parts : goal.invariant-copy_exprs-parts
-invariant-copy_exprs-parts l = l.all ≡ take l.part-index l.parts

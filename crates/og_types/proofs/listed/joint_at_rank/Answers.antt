@@ -1,6 +1,0 @@
-use Rattle.og_types.specs.Values.{joint_values_of}
-use Rattle.og_types.proofs.PlaceItems.{found_within}
-use Rattle.og_types.proofs.listed.joint_at_rank.Goals as goal
-
-pub returns-clause-there : goal.returns-clause-there
-returns-clause-there c = found_within (joint_values_of c.args.types.now) c.args.r c.joint_item.result c.joint_item.ensures

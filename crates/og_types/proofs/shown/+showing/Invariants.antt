@@ -1,6 +1,0 @@
-use Rattle.std.proofs.Common.{◌≡◌, ◌++◌, take, map}
-use Rattle.og_types.specs.Names.{shown, with_commas}
-use Rattle.og_types.proofs.shown.+showing.Given as goal
-
-abbrev pub invariant-write_parts-parts : goal.invariant-write_parts-parts
-invariant-write_parts-parts l = l.out ≡ l.initial.out ++ with_commas (map (shown l.enums) (take l.at l.parts))

@@ -1,0 +1,3 @@
+pub mod ValueEquality
+pub mod TyEquality
+pub mod ValueOrder
