@@ -13,6 +13,3 @@ pub use fault::LexFault;
 pub use laws::{one_lexing, some_lexing};
 pub use lexer::{MAX_TEXT, lex};
 pub use token::{Kind, Mark, Token, Word};
-
-#[cfg(test)]
-mod tests;

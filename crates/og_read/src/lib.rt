@@ -11,6 +11,3 @@ mod words;
 pub use games::read_game;
 pub use laws::{SmallGames, Strategies, one_game, one_strategy};
 pub use strategies::read_strategy;
-
-#[cfg(test)]
-mod tests;

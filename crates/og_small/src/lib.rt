@@ -12,6 +12,3 @@ pub use deviations::Deviation;
 pub use report::{Report, report_on};
 pub use rules::{accepts, fits};
 pub use tree::{Key, Line, Row, Section, SmallGame, TypeDecl};
-
-#[cfg(test)]
-mod tests;

@@ -1,54 +1,126 @@
-use super::*;
 use og_list::List;
+use og_small::{Key, Line, Row, Section, SmallGame, TypeDecl, accepts, fits, report_on};
 use std::alloc::{AllocError, Global};
 use std::str::SplitWhitespace;
 use std::test::Fail;
 
-fn name(alloc: Global, text: &str) -> Result<List<u8>, AllocError> {
-    List::from_slice(alloc, text.as_bytes())
+fn add_name(names: &mut List<List<u8>>, alloc: Global, text: &str) -> Result<(), AllocError> {
+    names.add(List::from_slice(alloc, text.as_bytes())?)
 }
 
-fn names(alloc: Global, words: SplitWhitespace<'_>) -> Result<List<List<u8>>, AllocError> {
-    let mut made = List::new(alloc);
+fn add_names(
+    names: &mut List<List<u8>>,
+    alloc: Global,
+    words: SplitWhitespace<'_>,
+) -> Result<(), AllocError> {
     for word in words {
-        made.add(name(alloc, word)?)?;
+        add_name(names, alloc, word)?;
     }
-    Ok(made)
+    Ok(())
+}
+
+fn add_type(
+    types: &mut List<TypeDecl>,
+    alloc: Global,
+    name: &str,
+    cases: SplitWhitespace<'_>,
+) -> Result<(), AllocError> {
+    let mut made = TypeDecl {
+        name: List::new(alloc),
+        cases: List::new(alloc),
+    };
+    made.name.extend_from_slice(name.as_bytes())?;
+    add_names(&mut made.cases, alloc, cases)?;
+    types.add(made)
+}
+
+fn add_line(
+    lines: &mut List<Line>,
+    alloc: Global,
+    agent: &str,
+    action: &str,
+    output: &str,
+) -> Result<(), AllocError> {
+    let mut made = Line {
+        agent: List::new(alloc),
+        action: List::new(alloc),
+        output: List::new(alloc),
+        keys: List::new(alloc),
+        rows: List::new(alloc),
+    };
+    made.agent.extend_from_slice(agent.as_bytes())?;
+    made.action.extend_from_slice(action.as_bytes())?;
+    made.output.extend_from_slice(output.as_bytes())?;
+    lines.add(made)
+}
+
+fn add_key(
+    keys: &mut List<Key>,
+    alloc: Global,
+    output: &str,
+    action: &str,
+) -> Result<(), AllocError> {
+    let mut made = Key {
+        output: List::new(alloc),
+        action: List::new(alloc),
+    };
+    made.output.extend_from_slice(output.as_bytes())?;
+    made.action.extend_from_slice(action.as_bytes())?;
+    keys.add(made)
+}
+
+fn add_row(
+    rows: &mut List<Row>,
+    alloc: Global,
+    pay: u64,
+    cases: SplitWhitespace<'_>,
+) -> Result<(), AllocError> {
+    let mut made = Row {
+        cases: List::new(alloc),
+        pay,
+    };
+    add_names(&mut made.cases, alloc, cases)?;
+    rows.add(made)
+}
+
+/// Adds to the line's table: `key OUTPUT TYPE` or `pays NUMBER CASES`.
+fn add_to_line(
+    line: &mut Line,
+    alloc: Global,
+    kind: &str,
+    mut words: SplitWhitespace<'_>,
+) -> Result<(), Fail> {
+    let first = words.next().unwrap_or("");
+    if kind == "key" {
+        add_key(&mut line.keys, alloc, first, words.next().unwrap_or(""))?;
+    } else {
+        let pay = first.parse::<u64>().ok().ok_or("a number")?;
+        add_row(&mut line.rows, alloc, pay, words)?;
+    }
+    Ok(())
 }
 
 /// Adds one part of a game's text: `type NAME CASES`, `line AGENT TYPE OUTPUT`, or `key OUTPUT TYPE`
 /// and `pays NUMBER CASES`, which belong to the last line.
-fn add_part(alloc: Global, game: &mut SmallGame, part: &str) -> Result<(), Fail> {
+fn add_part(game: &mut SmallGame, alloc: Global, part: &str) -> Result<(), Fail> {
     let mut words = part.split_whitespace();
-    let kind = words.next().unwrap_or("");
-    let first = words.next().unwrap_or("");
-    if kind == "type" {
-        game.types.add(TypeDecl {
-            name: name(alloc, first)?,
-            cases: names(alloc, words)?,
-        })?;
-    } else if kind == "line" {
-        game.lines.add(Line {
-            agent: name(alloc, first)?,
-            action: name(alloc, words.next().ok_or("a type")?)?,
-            output: name(alloc, words.next().ok_or("an output")?)?,
-            keys: List::new(alloc),
-            rows: List::new(alloc),
-        })?;
-    } else if kind != "" {
-        let mut line = game.lines.pop().ok_or("a line")?;
-        if kind == "key" {
-            line.keys.add(Key {
-                output: name(alloc, first)?,
-                action: name(alloc, words.next().ok_or("a type")?)?,
-            })?;
-        } else {
-            line.rows.add(Row {
-                pay: first.parse::<u64>().ok().ok_or("a number")?,
-                cases: names(alloc, words)?,
-            })?;
+    match words.next().unwrap_or("") {
+        "" => {}
+        "type" => {
+            let name = words.next().unwrap_or("");
+            add_type(&mut game.types, alloc, name, words)?;
         }
-        game.lines.add(line)?;
+        "line" => {
+            let agent = words.next().unwrap_or("");
+            let action = words.next().unwrap_or("");
+            let output = words.next().unwrap_or("");
+            add_line(&mut game.lines, alloc, agent, action, output)?;
+        }
+        kind => {
+            let mut line = game.lines.pop().ok_or("a line")?;
+            add_to_line(&mut line, alloc, kind, words)?;
+            game.lines.add(line)?;
+        }
     }
     Ok(())
 }
@@ -60,9 +132,24 @@ fn game(alloc: Global, text: &str) -> Result<SmallGame, Fail> {
         lines: List::new(alloc),
     };
     for part in text.split(';') {
-        add_part(alloc, &mut made, part)?;
+        add_part(&mut made, alloc, part)?;
     }
     Ok(made)
+}
+
+fn add_section(
+    sections: &mut List<Section>,
+    alloc: Global,
+    agent: &str,
+    choice: &str,
+) -> Result<(), AllocError> {
+    let mut made = Section {
+        agent: List::new(alloc),
+        choice: List::new(alloc),
+    };
+    made.agent.extend_from_slice(agent.as_bytes())?;
+    made.choice.extend_from_slice(choice.as_bytes())?;
+    sections.add(made)
 }
 
 /// The strategy of a text: for each section its agent and its choice.
@@ -71,30 +158,41 @@ fn strategy(alloc: Global, text: &str) -> Result<List<Section>, Fail> {
     let mut words = text.split_whitespace();
     for _ in 0..5 {
         if let Some(agent) = words.next() {
-            made.add(Section {
-                agent: name(alloc, agent)?,
-                choice: name(alloc, words.next().ok_or("a choice")?)?,
-            })?;
+            add_section(&mut made, alloc, agent, words.next().unwrap_or(""))?;
         }
     }
     Ok(made)
 }
 
-/// What is told about a game: `refused`, or `unfit` where the strategy does not fit, or the report.
-fn told(alloc: Global, text: &str, choices: &str) -> Result<List<u8>, Fail> {
-    let game = game(alloc, text)?;
-    if !accepts(alloc, &game)? {
-        return Ok(name(alloc, "refused")?);
-    }
+/// Adds the report on an accepted game, or `unfit` where the strategy does not fit.
+fn tell_report(
+    alloc: Global,
+    game: &SmallGame,
+    choices: &str,
+    told: &mut String,
+) -> Result<(), Fail> {
     let sections = strategy(alloc, choices)?;
-    if !fits(&game, sections.as_slice()) {
-        return Ok(name(alloc, "unfit")?);
+    if !fits(game, sections.as_slice()) {
+        told.push_str("unfit")?;
+        return Ok(());
     }
-    let made = report_on(alloc, &game, sections.as_slice())?;
+    let made = report_on(alloc, game, sections.as_slice())?;
     if made.is_equilibrium != made.text.as_slice().starts_with(b"equilibrium") {
-        return Ok(name(alloc, "another verdict")?);
+        told.push_str("another verdict")?;
     }
-    Ok(made.text)
+    told.push_str(str::from_utf8(made.text.as_slice()).ok().ok_or("a text")?)?;
+    Ok(())
+}
+
+/// Adds what is told about a game: `refused`, or what is told of an accepted one.
+fn tell(alloc: Global, text: &str, choices: &str, told: &mut String) -> Result<(), Fail> {
+    let game = game(alloc, text)?;
+    if accepts(alloc, &game)? {
+        tell_report(alloc, &game, choices, told)?;
+    } else {
+        told.push_str("refused")?;
+    }
+    Ok(())
 }
 
 /// The prisoner's dilemma.
@@ -169,11 +267,18 @@ fn reports(rt: HostRuntime) -> Result<(), Fail> {
         (DILEMMA, "player1 C player2 C player1 C", "unfit"),
     ];
     for (text, choices, want) in cases {
-        let made = told(alloc, text, choices)?;
-        let shown = str::from_utf8(made.as_slice()).ok().ok_or("a text")?;
-        assert_eq!(rt; shown, want, "{choices} in {text}");
+        let mut told = String::new(alloc);
+        tell(alloc, text, choices, &mut told)?;
+        assert_eq!(rt; told.as_str(), want, "{choices} in {text}");
     }
     Ok(())
+}
+
+/// Whether the prisoner's dilemma with more after it is accepted.
+fn accepts_with(alloc: Global, more: &str) -> Result<bool, Fail> {
+    let text = format!(in alloc; "{DILEMMA} {more}")?;
+    let made = game(alloc, text.as_str())?;
+    Ok(accepts(alloc, &made)?)
 }
 
 #[test]
@@ -246,9 +351,7 @@ fn accepted_games(rt: HostRuntime) -> Result<(), Fail> {
         ),
     ];
     for (more, want) in cases {
-        let text = format!(in alloc; "{DILEMMA} {more}")?;
-        let made = game(alloc, text.as_str())?;
-        assert_eq!(rt; accepts(alloc, &made)?, want, "with {more}");
+        assert_eq!(rt; accepts_with(alloc, more)?, want, "with {more}");
     }
     Ok(())
 }

@@ -1,54 +1,57 @@
-use super::*;
-use std::alloc::Global;
+use og_lex::{MAX_TEXT, Mark, Token, Word, lex, one_lexing, some_lexing};
+use std::alloc::{AllocError, Global};
 use std::test::Fail;
 
-/// What a text has: for each token what it is, and the bytes from which to which it stands.
-fn shown(alloc: Global, text: &str) -> Result<String, Fail> {
-    let mut out = String::new(alloc);
+/// Adds what the token is, and the bytes from which to which it stands.
+fn show_token(alloc: Global, token: &Token, out: &mut String) -> Result<(), AllocError> {
+    let kind = token.kind;
+    let start = token.start;
+    let end = token.end;
+    let shown = format!(in alloc; "{kind:?} {start}..{end};")?;
+    out.push_str(shown.as_str())
+}
+
+/// Adds what a text has: its tokens, or its fault.
+fn show_tokens(alloc: Global, text: &str, out: &mut String) -> Result<(), Fail> {
     if text.len() > MAX_TEXT {
-        return Ok(out);
+        return Ok(());
     }
     match lex(alloc, text) {
         Ok(tokens) => {
             for token in tokens.as_slice() {
-                let kind = token.kind;
-                let start = token.start;
-                let end = token.end;
-                out.push_str(format!(in alloc; "{kind:?} {start}..{end};")?.as_str())?;
+                show_token(alloc, token, out)?;
             }
         }
-        Err(fault) => out.push_str(format!(in alloc; "{fault:?}")?.as_str())?,
+        Err(fault) => {
+            let shown = format!(in alloc; "{fault:?}")?;
+            out.push_str(shown.as_str())?;
+        }
     }
-    Ok(out)
+    Ok(())
 }
 
-/// The part of the text that each token is.
-fn parts(alloc: Global, text: &str) -> Result<String, Fail> {
-    let mut out = String::new(alloc);
+/// Adds the part of the text that each token is.
+fn show_parts(alloc: Global, text: &str, out: &mut String) -> Result<(), Fail> {
     if text.len() > MAX_TEXT {
-        return Ok(out);
+        return Ok(());
     }
     let tokens = lex(alloc, text).ok().ok_or("tokens")?;
     for token in tokens.as_slice() {
         out.push_str(token.text(text))?;
         out.push_str("|")?;
     }
-    Ok(out)
-}
-
-#[test]
-fn parts_of_a_text(rt: HostRuntime) -> Result<(), Fail> {
-    let text = "bid_\u{e9}->\"a b\"// x\n _y 007 :---:";
-    let want = "bid_\u{e9}|->|\"a b\"|_y|007|:---:|";
-    assert_eq!(rt; parts(rt.alloc(), text)?.as_str(), want);
     Ok(())
 }
 
-/// Three colons and three hyphens in each of their orders: only a colon, three hyphens and a colon side
-/// by side are a separator.
 #[test]
-fn colons_and_hyphens(rt: HostRuntime) -> Result<(), Fail> {
+fn parts_of_texts(rt: HostRuntime) -> Result<(), Fail> {
     let cases = [
+        (
+            "bid_\u{e9}->\"a b\"// x\n _y 007 :---:",
+            "bid_\u{e9}|->|\"a b\"|_y|007|:---:|",
+        ),
+        // Three colons and three hyphens in each of their orders: only a colon, three hyphens and a
+        // colon side by side are a separator.
         ("---:::", "-|-|-|:|:|:|"),
         ("--:-::", "-|-|:|-|:|:|"),
         ("--::-:", "-|-|:|:|-|:|"),
@@ -71,13 +74,22 @@ fn colons_and_hyphens(rt: HostRuntime) -> Result<(), Fail> {
         (":::---", ":|:|:|-|-|-|"),
     ];
     for (text, want) in cases {
-        assert_eq!(rt; parts(rt.alloc(), text)?.as_str(), want, "{text}");
+        let mut out = String::new(rt.alloc());
+        show_parts(rt.alloc(), text, &mut out)?;
+        assert_eq!(rt; out.as_str(), want, "{text}");
     }
     Ok(())
 }
 
+/// All the reserved words.
+const WORDS: &str =
+    "type fn game block inputs feedback operation outputs returns dependentDecision nature forwardFunction backwardFunction identity library if then elif else end table and or not true false bool number agent ratio min max clamp strategy among branch version";
+
+const WORDS_SHOWN: &str =
+    "Word(Type) 0..4;Word(Fn) 5..7;Word(Game) 8..12;Word(Block) 13..18;Word(Inputs) 19..25;Word(Feedback) 26..34;Word(Operation) 35..44;Word(Outputs) 45..52;Word(Returns) 53..60;Word(DependentDecision) 61..78;Word(Nature) 79..85;Word(ForwardFunction) 86..101;Word(BackwardFunction) 102..118;Word(Identity) 119..127;Word(Library) 128..135;Word(If) 136..138;Word(Then) 139..143;Word(Elif) 144..148;Word(Else) 149..153;Word(End) 154..157;Word(Table) 158..163;Word(And) 164..167;Word(Or) 168..170;Word(Not) 171..174;Word(True) 175..179;Word(False) 180..185;Word(Bool) 186..190;Word(Number) 191..197;Word(Agent) 198..203;Word(Ratio) 204..209;Word(Min) 210..213;Word(Max) 214..217;Word(Clamp) 218..223;Word(Strategy) 224..232;Word(Among) 233..238;Word(Branch) 239..245;Word(Version) 246..253;";
+
 #[test]
-fn texts_with_tokens(rt: HostRuntime) -> Result<(), Fail> {
+fn tokens_of_texts(rt: HostRuntime) -> Result<(), Fail> {
     let cases = [
         ("a:---:b", "Name 0..1;Separator 1..6;Name 6..7;"),
         (
@@ -152,16 +164,8 @@ fn texts_with_tokens(rt: HostRuntime) -> Result<(), Fail> {
         ("007", "Number(7) 0..3;"),
         ("9223372036854775807", "Number(9223372036854775807) 0..19;"),
         ("\"a b\" \"\u{e9}\"", "Text 0..5;Text 6..10;"),
-    ];
-    for (text, want) in cases {
-        assert_eq!(rt; shown(rt.alloc(), text)?.as_str(), want, "{text}");
-    }
-    Ok(())
-}
-
-#[test]
-fn texts_with_a_fault(rt: HostRuntime) -> Result<(), Fail> {
-    let cases = [
+        (WORDS, WORDS_SHOWN),
+        // the first fault of a text without tokens
         ("\"a", "OpenText(0)"),
         ("x \"a\tb\"", "OpenText(2)"),
         ("\"\u{7f}\"", "OpenText(0)"),
@@ -179,26 +183,17 @@ fn texts_with_a_fault(rt: HostRuntime) -> Result<(), Fail> {
         ("@ \"", "BadChar(0)"),
     ];
     for (text, want) in cases {
-        assert_eq!(rt; shown(rt.alloc(), text)?.as_str(), want, "{text}");
+        let mut out = String::new(rt.alloc());
+        show_tokens(rt.alloc(), text, &mut out)?;
+        assert_eq!(rt; out.as_str(), want, "{text}");
     }
     Ok(())
 }
 
 #[test]
-fn reserved_words(rt: HostRuntime) -> Result<(), Fail> {
-    let text =
-        "type fn game block inputs feedback operation outputs returns dependentDecision nature forwardFunction backwardFunction identity library if then elif else end table and or not true false bool number agent ratio min max clamp strategy among branch version";
-    let want =
-        "Word(Type) 0..4;Word(Fn) 5..7;Word(Game) 8..12;Word(Block) 13..18;Word(Inputs) 19..25;Word(Feedback) 26..34;Word(Operation) 35..44;Word(Outputs) 45..52;Word(Returns) 53..60;Word(DependentDecision) 61..78;Word(Nature) 79..85;Word(ForwardFunction) 86..101;Word(BackwardFunction) 102..118;Word(Identity) 119..127;Word(Library) 128..135;Word(If) 136..138;Word(Then) 139..143;Word(Elif) 144..148;Word(Else) 149..153;Word(End) 154..157;Word(Table) 158..163;Word(And) 164..167;Word(Or) 168..170;Word(Not) 171..174;Word(True) 175..179;Word(False) 180..185;Word(Bool) 186..190;Word(Number) 191..197;Word(Agent) 198..203;Word(Ratio) 204..209;Word(Min) 210..213;Word(Max) 214..217;Word(Clamp) 218..223;Word(Strategy) 224..232;Word(Among) 233..238;Word(Branch) 239..245;Word(Version) 246..253;";
-    assert_eq!(rt; shown(rt.alloc(), text)?.as_str(), want);
-    Ok(())
-}
-
-#[test]
-fn texts_of_words_and_marks(rt: HostRuntime) -> Result<(), Fail> {
+fn words_and_marks(rt: HostRuntime) {
     assert_eq!(rt; Word::DependentDecision.text(), "dependentDecision");
     assert_eq!(rt; Mark::Beside.text(), "&&&");
     one_lexing();
     some_lexing();
-    Ok(())
 }

@@ -1,8 +1,8 @@
-use super::*;
 use og_grammar::{exact_reading, same_kinds, single_value, sound_reading, whole_reading};
-use og_lex::{Kind, Mark, Token, Word};
+use og_lex::{MAX_TEXT, Token, lex};
 use og_list::List;
-use og_small::{Line, SmallGame};
+use og_read::{SmallGames, Strategies, one_game, one_strategy, read_game, read_strategy};
+use og_small::{Key, Line, Row, Section, SmallGame};
 use std::alloc::Global;
 use std::test::Fail;
 
@@ -31,60 +31,6 @@ player2 picks Move as y by y:Move x:Move
 1 for Defect Defect
 ";
 
-fn kind_of(piece: &str) -> Kind {
-    match piece {
-        "type" => Kind::Word(Word::Type),
-        "game" => Kind::Word(Word::Game),
-        "block" => Kind::Word(Word::Block),
-        "inputs" => Kind::Word(Word::Inputs),
-        "feedback" => Kind::Word(Word::Feedback),
-        "operation" => Kind::Word(Word::Operation),
-        "outputs" => Kind::Word(Word::Outputs),
-        "returns" => Kind::Word(Word::Returns),
-        "dependentDecision" => Kind::Word(Word::DependentDecision),
-        "table" => Kind::Word(Word::Table),
-        "strategy" => Kind::Word(Word::Strategy),
-        ":-----:" => Kind::Separator,
-        _ => mark_of(piece),
-    }
-}
-
-fn mark_of(piece: &str) -> Kind {
-    match piece {
-        "{" => Kind::Mark(Mark::LeftBrace),
-        "}" => Kind::Mark(Mark::RightBrace),
-        "(" => Kind::Mark(Mark::LeftParen),
-        ")" => Kind::Mark(Mark::RightParen),
-        "[" => Kind::Mark(Mark::LeftBracket),
-        "]" => Kind::Mark(Mark::RightBracket),
-        "," => Kind::Mark(Mark::Comma),
-        ";" => Kind::Mark(Mark::Semicolon),
-        ":" => Kind::Mark(Mark::Colon),
-        "->" => Kind::Mark(Mark::Arrow),
-        "=" => Kind::Mark(Mark::Assign),
-        _ if piece.as_bytes().starts_with(b"\"") => Kind::Text,
-        _ => match piece.parse() {
-            Ok(number) => Kind::Number(number),
-            Err(_) => Kind::Name,
-        },
-    }
-}
-
-/// The tokens of pieces with blanks between, and the pieces again, as the text that they point into.
-fn tokens(alloc: Global, pieces: &str) -> Result<(Vec<u8>, Vec<Token>), Fail> {
-    let mut text = Vec::new(alloc);
-    let mut tokens = Vec::new(alloc);
-    for piece in pieces.split_whitespace() {
-        let start = u32::try_from(text.len())?;
-        text.extend_from_slice(piece.as_bytes())?;
-        let end = u32::try_from(text.len())?;
-        let kind = kind_of(piece);
-        tokens.push(Token { kind, start, end })?;
-        text.push(b' ')?;
-    }
-    Ok((text, tokens))
-}
-
 fn show_name(shown: &mut String, name: &List<u8>) -> Result<(), Fail> {
     for byte in name.as_slice() {
         shown.push(char::from(*byte))?;
@@ -101,6 +47,19 @@ fn show_names(shown: &mut String, names: &List<List<u8>>) -> Result<(), Fail> {
     Ok(())
 }
 
+fn show_key(shown: &mut String, key: &Key) -> Result<(), Fail> {
+    shown.push_str(" ")?;
+    show_name(shown, &key.output)?;
+    shown.push_str(":")?;
+    show_name(shown, &key.action)
+}
+
+fn show_row(alloc: Global, shown: &mut String, row: &Row) -> Result<(), Fail> {
+    let pay = format!(in alloc; "{} for", row.pay)?;
+    shown.push_str(pay.as_str())?;
+    show_names(shown, &row.cases)
+}
+
 fn show_line(alloc: Global, shown: &mut String, line: &Line) -> Result<(), Fail> {
     show_name(shown, &line.agent)?;
     shown.push_str(" picks ")?;
@@ -109,64 +68,70 @@ fn show_line(alloc: Global, shown: &mut String, line: &Line) -> Result<(), Fail>
     show_name(shown, &line.output)?;
     shown.push_str(" by")?;
     for key in line.keys.as_slice() {
-        shown.push_str(" ")?;
-        show_name(shown, &key.output)?;
-        shown.push_str(":")?;
-        show_name(shown, &key.action)?;
+        show_key(shown, key)?;
     }
     shown.push_str("\n")?;
     for row in line.rows.as_slice() {
-        let pay = format!(in alloc; "{} for", row.pay)?;
-        shown.push_str(pay.as_str())?;
-        show_names(shown, &row.cases)?;
+        show_row(alloc, shown, row)?;
     }
     Ok(())
 }
 
-fn show_game(alloc: Global, game: &SmallGame) -> Result<String, Fail> {
-    let mut shown = String::new(alloc);
+fn show_game(alloc: Global, shown: &mut String, game: &SmallGame) -> Result<(), Fail> {
     for declared in game.types.as_slice() {
         shown.push_str("type ")?;
-        show_name(&mut shown, &declared.name)?;
+        show_name(shown, &declared.name)?;
         shown.push_str(":")?;
-        show_names(&mut shown, &declared.cases)?;
+        show_names(shown, &declared.cases)?;
     }
     for line in game.lines.as_slice() {
-        show_line(alloc, &mut shown, line)?;
+        show_line(alloc, shown, line)?;
     }
-    Ok(shown)
+    Ok(())
 }
 
-/// What the pieces are read as, or `none`.
-fn game_of(alloc: Global, pieces: &str) -> Result<String, Fail> {
-    let (text, tokens) = tokens(alloc, pieces)?;
-    match read_game(alloc, text.as_slice(), tokens.as_slice())? {
-        Some(game) => show_game(alloc, &game),
-        None => Ok(String::from_str(alloc, "none")?),
+fn show_section(shown: &mut String, section: &Section) -> Result<(), Fail> {
+    show_name(shown, &section.agent)?;
+    shown.push_str(" picks ")?;
+    show_name(shown, &section.choice)?;
+    shown.push_str("\n")?;
+    Ok(())
+}
+
+fn tokens_of(alloc: Global, text: &str) -> Result<List<Token>, Fail> {
+    if text.len() > MAX_TEXT {
+        return Ok(List::new(alloc));
+    }
+    Ok(lex(alloc, text).ok().ok_or("tokens")?)
+}
+
+/// Adds the game that the text is read as, or `none`.
+fn tell_game(alloc: Global, text: &str, shown: &mut String) -> Result<(), Fail> {
+    let tokens = tokens_of(alloc, text)?;
+    match read_game(alloc, text.as_bytes(), tokens.as_slice())? {
+        Some(game) => show_game(alloc, shown, &game),
+        None => Ok(shown.push_str("none")?),
     }
 }
 
-fn strategy_of(alloc: Global, pieces: &str) -> Result<String, Fail> {
-    let (text, tokens) = tokens(alloc, pieces)?;
-    let mut shown = String::new(alloc);
-    match read_strategy(alloc, text.as_slice(), tokens.as_slice())? {
+/// Adds the strategy that the text is read as, or `none`.
+fn tell_strategy(alloc: Global, text: &str, shown: &mut String) -> Result<(), Fail> {
+    let tokens = tokens_of(alloc, text)?;
+    match read_strategy(alloc, text.as_bytes(), tokens.as_slice())? {
         Some(sections) => {
             for section in sections.as_slice() {
-                show_name(&mut shown, &section.agent)?;
-                shown.push_str(" picks ")?;
-                show_name(&mut shown, &section.choice)?;
-                shown.push_str("\n")?;
+                show_section(shown, section)?;
             }
         }
         None => shown.push_str("none")?,
     }
-    Ok(shown)
+    Ok(())
 }
 
 #[test]
 fn games(rt: HostRuntime) -> Result<(), Fail> {
     let alloc = rt.alloc();
-    for (pieces, shown) in [
+    for (text, want) in [
         (DILEMMA, DILEMMA_SHOWN),
         ("game main = block { :-----: :-----: } ;", ""),
         (
@@ -186,8 +151,9 @@ fn games(rt: HostRuntime) -> Result<(), Fail> {
             "none",
         ),
     ] {
-        let read = game_of(alloc, pieces)?;
-        assert_eq!(rt; read.as_str(), shown, "{pieces}");
+        let mut shown = String::new(alloc);
+        tell_game(alloc, text, &mut shown)?;
+        assert_eq!(rt; shown.as_str(), want, "{text}");
     }
     Ok(())
 }
@@ -195,7 +161,7 @@ fn games(rt: HostRuntime) -> Result<(), Fail> {
 #[test]
 fn strategies(rt: HostRuntime) -> Result<(), Fail> {
     let alloc = rt.alloc();
-    for (pieces, shown) in [
+    for (text, want) in [
         (
             "strategy \"player1\" { ( ) -> Defect ; } strategy \"player2\" { ( ) -> Cooperate ; }",
             "player1 picks Defect\nplayer2 picks Cooperate\n",
@@ -205,8 +171,9 @@ fn strategies(rt: HostRuntime) -> Result<(), Fail> {
         ("strategy \"player1\" { ( ) -> Defect ; } ;", "none"),
         ("strategy player1 { ( ) -> Defect ; }", "none"),
     ] {
-        let read = strategy_of(alloc, pieces)?;
-        assert_eq!(rt; read.as_str(), shown, "{pieces}");
+        let mut shown = String::new(alloc);
+        tell_strategy(alloc, text, &mut shown)?;
+        assert_eq!(rt; shown.as_str(), want, "{text}");
     }
     Ok(())
 }
