@@ -1,5 +1,5 @@
 -- The reading of a text gives its tokens or its first fault.
-use Rattle.std.proofs.Common.{◌≡◌, ◌≢◌, ◌⊎◌, inl, inr, ℕ, zero, suc, ◌+◌, ◌-◌, ◌<◌, ◌≤◌, Bool, true, false, cond, List, [], ◌∷◌, ◌++◌, length, refl, sym, ap, ◌∙◌, subst, arith, append_assoc, length-append}
+use Rattle.std.proofs.Common.{◌≡◌, ◌≢◌, ◌⊎◌, inl, inr, ℕ, zero, suc, ◌+◌, ◌-◌, ◌≤◌, Bool, true, false, cond, List, [], ◌∷◌, ◌++◌, length, refl, sym, ap, ◌∙◌, subst, arith, append_assoc, length-append}
 use Rattle.std.specs.Prelude.{Option, Some, None, Result, Ok, Err, MatchResult, ◌==◌}
 use Rattle.std.specs.Str.{chars}
 use Rattle.std.proofs.lemmas.List.{append-nil}
@@ -8,23 +8,23 @@ use Rattle.og_lex.specs.declared.token.Token.{Token}
 use Rattle.og_lex.specs.declared.fault.LexFault.{LexFault}
 use Rattle.og_lex.specs.declared.fault.LexFault.TheVariants as faults
 use Rattle.og_lex.specs.Characters.{is_digit, byte_len}
-use Rattle.og_lex.specs.Reading.{Read, piece_at, with_token, go_on, scan, tokens}
-use Rattle.og_lex.specs.Spelling.{Stands, Piece, written, AllStand, with_piece, tokens_of, FaultAt, IsFirstFault, Lexed}
-use Rattle.og_lex.proofs.Lengths.{byte_len-append}
-use Rattle.og_lex.proofs.Pieces.{Shows, piece-shown}
+use Rattle.og_lex.specs.LeftToRight.{Read, piece_at, with_token, go_on, scan, tokens}
+use Rattle.og_lex.specs.Spelling.{Stands, Piece, characters_of, AllStand, with_piece, tokens_of, FaultAt, IsFirstFault, Lexed}
+use Rattle.og_lex.proofs.ByteLen.{byte_len-append, byte_len-nil, some_length}
+use Rattle.og_lex.proofs.PieceAt.{Shows, piece-shown}
 
 pub record HasTokens (place : ℕ) (cs : List ℕ) (ts : List Token) : Type 0 where
   pub pieces : List Piece
-  pub whole : cs ≡ written pieces
+  pub whole : cs ≡ characters_of pieces
   pub each : AllStand pieces []
   pub same : ts ≡ tokens_of place pieces
 
 pub record HasFault (place : ℕ) (cs : List ℕ) (fault : LexFault) : Type 0 where
   pub pieces : List Piece
   pub rest : List ℕ
-  pub whole : cs ≡ written pieces ++ rest
+  pub whole : cs ≡ characters_of pieces ++ rest
   pub each : AllStand pieces rest
-  pub cause : FaultAt (place + byte_len (written pieces)) rest fault
+  pub cause : FaultAt (place + byte_len (characters_of pieces)) rest fault
 
 -- what a reading of the characters from a place on tells of them
 abbrev pub Has : ℕ → List ℕ → Result (List Token) LexFault → Type 0
@@ -35,7 +35,7 @@ tokens-kept : (what : Option Kind) (front rest : List ℕ) (place : ℕ) (ts : L
 tokens-kept what front rest place ts s h = record {
   pieces = record { what = what; front = front } ∷ h.pieces;
   whole = ap (λ l. front ++ l) h.whole;
-  each = (subst (Stands what front) (h.whole ∙ sym (append-nil (written h.pieces))) s, h.each);
+  each = (subst (Stands what front) (h.whole ∙ sym (append-nil (characters_of h.pieces))) s, h.each);
   same = ap (with_piece what place (place + byte_len front)) h.same;
 }
 
@@ -43,10 +43,10 @@ fault-kept : (what : Option Kind) (front rest : List ℕ) (place : ℕ) (fault :
 fault-kept what front rest place fault s h = record {
   pieces = record { what = what; front = front } ∷ h.pieces;
   rest = h.rest;
-  whole = ap (λ l. front ++ l) h.whole ∙ sym (append_assoc front (written h.pieces) h.rest);
+  whole = ap (λ l. front ++ l) h.whole ∙ sym (append_assoc front (characters_of h.pieces) h.rest);
   each = (subst (Stands what front) h.whole s, h.each);
   cause =
-      let at : place + byte_len front + byte_len (written h.pieces) ≡ place + byte_len (front ++ written h.pieces) = omega (arith, byte_len-append front (written h.pieces)) in
+      let at : place + byte_len front + byte_len (characters_of h.pieces) ≡ place + byte_len (front ++ characters_of h.pieces) = omega (arith, byte_len-append front (characters_of h.pieces)) in
       subst (λ p. FaultAt p h.rest fault) at h.cause;
 }
 
@@ -63,27 +63,19 @@ token-kept : (kind : Kind) (place : ℕ) (front rest : List ℕ) (r : Result (Li
 token-kept kind place front rest (Ok ts) s h = tokens-kept (Some kind) front rest place ts s h
 token-kept kind place front rest (Err fault) s h = fault-kept (Some kind) front rest place fault s h
 
-no-bytes : byte_len [] ≡ 0
-unfolding byte_len
-no-bytes = refl
-
-front-length : (front : List ℕ) → front ≢ [] → 0 < length front
-front-length [] some = absurd (some refl)
-front-length (c ∷ cs) some = omega arith
-
 gone : (next : ℕ → List ℕ → Result (List Token) LexFault) (n place : ℕ) (cs : List ℕ) → length cs ≤ suc n → ((m : ℕ) (rest : List ℕ) → length rest ≤ n → Has m rest (next m rest))
     → (r : Read) → Shows place cs r → Has place cs (go_on next place cs r)
-gone next n place cs h more (Err fault) f = record { pieces = []; rest = cs; whole = refl; each = tt; cause = subst (λ p. FaultAt p cs fault) (omega (arith, no-bytes)) f }
+gone next n place cs h more (Err fault) f = record { pieces = []; rest = cs; whole = refl; each = tt; cause = subst (λ p. FaultAt p cs fault) (omega (arith, byte_len-nil)) f }
 gone next n place cs h more (Ok (None, rest)) f =
     let end = place-after place cs f.front rest f.whole in
-    let short : length rest ≤ n = omega (arith, ap length f.whole, length-append f.front rest, front-length f.front f.some) in
+    let short : length rest ≤ n = omega (arith, ap length f.whole, length-append f.front rest, some_length f.front f.some) in
     let here : Has (place + byte_len f.front) rest (next (place + byte_len f.front) rest) = more (place + byte_len f.front) rest short in
     let kept = gap-kept place f.front rest (next (place + byte_len f.front) rest) f.stands here in
     let At : List ℕ → Type 0 = λ l. Has place l (next (place + byte_len f.front) rest) in
     subst (λ p. Has place cs (next p rest)) (sym end) (subst At (sym f.whole) kept)
 gone next n place cs h more (Ok (Some kind, rest)) f =
     let end = place-after place cs f.front rest f.whole in
-    let short : length rest ≤ n = omega (arith, ap length f.whole, length-append f.front rest, front-length f.front f.some) in
+    let short : length rest ≤ n = omega (arith, ap length f.whole, length-append f.front rest, some_length f.front f.some) in
     let here : Has (place + byte_len f.front) rest (next (place + byte_len f.front) rest) = more (place + byte_len f.front) rest short in
     let kept = token-kept kind place f.front rest (next (place + byte_len f.front) rest) f.stands here in
     let At : List ℕ → Type 0 = λ l. Has place l (with_token (record { kind = kind; start = place; end = place + byte_len f.front }) (next (place + byte_len f.front) rest)) in
@@ -132,7 +124,7 @@ fault-some place (c ∷ cs) f = cause-some (is_digit c) (c == 34) place (sym f.1
 pub tokens-some : (text : List ℕ) → tokens text ≢ Err faults.Memory
 tokens-some text e =
     let h = subst (Has 0 (chars text)) e (tokens-has text) in
-    fault-some (0 + byte_len (written h.pieces)) h.rest h.cause
+    fault-some (0 + byte_len (characters_of h.pieces)) h.rest h.cause
 
 -- what the loop tells, as the public call says it
 pub exact_from : (text : List ℕ) (r : Result (List Token) LexFault) → MatchResult r (λ ts. tokens text ≡ Ok ts) (λ fault. fault ≢ faults.Memory → tokens text ≡ Err fault) → (r ≡ Err faults.Memory) ⊎ (r ≡ tokens text)

@@ -1,5 +1,5 @@
 -- How the characters of a text follow its cuts.
-use Rattle.std.proofs.Common.{◌≡◌, ℕ, ◌-◌, Bool, true, false, cond, List, [], ◌∷◌, ◌++◌, length, refl, sym, ap, ◌∙◌, subst, append_assoc, arith, length-append}
+use Rattle.std.proofs.Common.{◌≡◌, ℕ, ◌-◌, Bool, true, false, cond, List, [], ◌∷◌, ◌++◌, length, sym, ap, ◌∙◌, subst, append_assoc, arith, length-append}
 use Rattle.std.specs.Prelude.{encode_utf8, encode_utf8_all}
 use Rattle.std.specs.Str.{chars, IsUtf8, IsCharBoundary}
 use Rattle.std.proofs.lemmas.Str.{encodes-append, IsCharBoundary-at_seam}
@@ -25,9 +25,6 @@ pub record IsPassed (p : ℕ → Bool) (text rest : List ℕ) : Type 0 where
   pub ran : run p (chars text) ≡ front ++ run p (chars rest)
   pub left : behind p (chars text) ≡ behind p (chars rest)
 
-pub passed-none : (p : ℕ → Bool) (text : List ℕ) → IsPassed p text text
-passed-none p text = record { front = []; whole = refl; ran = refl; left = refl }
-
 pub passed-more : (p : ℕ → Bool) (text rest after : List ℕ) (c : ℕ) → IsPassed p text rest → chars rest ≡ c ∷ chars after → rest ≡ encode_utf8 c ++ after → p c ≡ true → IsPassed p text after
 passed-more p text rest after c h e w y =
     let grown : encode_utf8_all (h.front ++ c ∷ []) ≡ encode_utf8_all h.front ++ encode_utf8 c =
@@ -38,12 +35,6 @@ passed-more p text rest after c h e w y =
       ran = h.ran ∙ ap (λ r. h.front ++ run p r) e ∙ ap (λ r. h.front ++ r) (run-yes p c (chars after) y) ∙ sym (append_assoc h.front (c ∷ []) (run p (chars after)));
       left = h.left ∙ ap (behind p) e ∙ behind-yes p c (chars after) y;
     }
-
--- the characters are at their end, or the next one does not pass
-pub passed-end : (p : ℕ → Bool) (text rest : List ℕ) → IsPassed p text rest → run p (chars rest) ≡ [] → behind p (chars rest) ≡ chars rest → (chars rest ≡ behind p (chars text)) × (text ≡ encode_utf8_all (run p (chars text)) ++ rest)
-passed-end p text rest h none all =
-    let same : run p (chars text) ≡ h.front = h.ran ∙ ap (λ r. h.front ++ r) none ∙ append-nil h.front in
-    (sym (h.left ∙ all), h.whole ∙ ap (λ f. encode_utf8_all f ++ rest) (sym same))
 
 -- a text may be cut where a text follows
 pub seam_length : (text front rest : List ℕ) → text ≡ front ++ rest → length text - length rest ≡ length front

@@ -1,6 +1,6 @@
 ghost use Rattle.std.specs.Prelude.{◌≡◌, ◌∷◌, [], IfOk, IfSome, MatchOption, MatchResult};
 ghost use Rattle.std.specs.Str.{chars, IsUtf8};
-ghost use Rattle.og_lex.specs.Reading.{word_among, mark_among, word_of, name_at, under_at, number_at, text_at, separator_end, mark_at, symbol_at, token_at, piece_at};
+ghost use Rattle.og_lex.specs.LeftToRight.{word_among, mark_among, word_of, name_at, under_at, number_at, text_at, separator_end, mark_at, symbol_at, token_at, piece_at};
 ghost use Rattle.og_lex.specs.Characters.{is_blank};
 
 use crate::class::Class;
@@ -108,7 +108,7 @@ fn mark_among<'a>(marks: &[Mark], text: &'a str) -> Option<(Mark, &'a str)>
 }
 
 /// The reserved word that is written so.
-#[tactic(auto, unfolding(crate::specs::Reading::word_of, crate::specs::Tables::all_words))]
+#[tactic(auto, unfolding(crate::specs::LeftToRight::word_of, crate::specs::Tables::all_words))]
 fn word_of(name: &str) -> Option<Word>
     ensures { result ≡ word_of name.now }
 {
@@ -116,7 +116,7 @@ fn word_of(name: &str) -> Option<Word>
 }
 
 /// The longest mark with which the text begins, and the text behind it.
-#[tactic(auto, unfolding(crate::specs::Reading::mark_at, crate::specs::Tables::all_marks))]
+#[tactic(auto, unfolding(crate::specs::LeftToRight::mark_at, crate::specs::Tables::all_marks))]
 fn mark_at(text: &str) -> Option<(Mark, &str)>
     ensures cases { MatchOption result (mark_at (chars text.now) ≡ None)
         (λ x. mark_at (chars text.now) ≡ Some (x.0, chars x.1.now)) }
@@ -126,7 +126,7 @@ fn mark_at(text: &str) -> Option<(Mark, &str)>
 }
 
 /// The name or the reserved word with which the text begins, and the text behind it.
-#[tactic(auto, using(crate::proofs::Words::word_of_encodes), unfolding(crate::specs::Reading::name_at, crate::specs::Characters::has))]
+#[tactic(auto, using(crate::proofs::WordBytes::word_of_encodes), unfolding(crate::specs::LeftToRight::name_at, crate::specs::Characters::has))]
 fn name_at(text: &str) -> (Kind, &str)
     ensures value { name_at (chars text.now) ≡ (result.0, chars result.1.now) }
     ensures utf8 { IsUtf8 result.1.now }
@@ -140,7 +140,7 @@ fn name_at(text: &str) -> (Kind, &str)
 }
 
 /// The token that begins with an underscore, and the text behind it.
-#[tactic(auto, unfolding(crate::specs::Reading::under_at, crate::specs::Characters::has, crate::specs::Characters::byte_len))]
+#[tactic(auto, unfolding(crate::specs::LeftToRight::under_at, crate::specs::Characters::has, crate::specs::Characters::byte_len))]
 fn under_at(text: &str, place: u32) -> Result<(Kind, &str), LexFault>
     ensures cases { MatchResult result
         (λ x. under_at place (chars text.now) ≡ Ok (x.0, chars x.1.now))
@@ -156,7 +156,7 @@ fn under_at(text: &str, place: u32) -> Result<(Kind, &str), LexFault>
 }
 
 /// The number with whose digits the text begins, and the text behind it.
-#[tactic(auto, unfolding(crate::specs::Reading::number_at, crate::specs::Characters::has))]
+#[tactic(auto, unfolding(crate::specs::LeftToRight::number_at, crate::specs::Characters::has))]
 fn number_at(text: &str, place: u32) -> Result<(Kind, &str), LexFault>
     ensures cases { MatchResult result
         (λ x. number_at place (chars text.now) ≡ Ok (x.0, chars x.1.now))
@@ -171,7 +171,7 @@ fn number_at(text: &str, place: u32) -> Result<(Kind, &str), LexFault>
 }
 
 /// The text between double quotes, the first of which stands just before, and the text behind it.
-#[tactic(auto, unfolding(crate::specs::Reading::text_at, crate::specs::Characters::has))]
+#[tactic(auto, unfolding(crate::specs::LeftToRight::text_at, crate::specs::Characters::has))]
 fn text_at(after: &str, place: u32) -> Result<(Kind, &str), LexFault>
     ensures cases { MatchResult result
         (λ x. text_at place (chars after.now) ≡ Ok (x.0, chars x.1.now))
@@ -185,7 +185,7 @@ fn text_at(after: &str, place: u32) -> Result<(Kind, &str), LexFault>
 }
 
 /// What follows a separator whose first colon stands just before the text.
-#[tactic(auto, unfolding(crate::specs::Reading::separator_end, crate::specs::Characters::has, crate::specs::Characters::byte_len))]
+#[tactic(auto, unfolding(crate::specs::LeftToRight::separator_end, crate::specs::Characters::has, crate::specs::Characters::byte_len))]
 fn separator_end(after: &str) -> Option<&str>
     ensures cases { MatchOption result (separator_end (chars after.now) ≡ None)
         (λ rest. separator_end (chars after.now) ≡ Some (chars rest.now)) }
@@ -200,7 +200,7 @@ fn separator_end(after: &str) -> Option<&str>
 
 /// The separator or the mark with which the text begins, and the text behind it. The text is the
 /// character and then `after`.
-#[tactic(auto, unfolding(crate::specs::Reading::symbol_at))]
+#[tactic(auto, unfolding(crate::specs::LeftToRight::symbol_at))]
 fn symbol_at<'a>(
     text: &'a str,
     c: char,
@@ -224,7 +224,7 @@ fn symbol_at<'a>(
 }
 
 /// The token at the front of the text, which stands at the place, and the text behind it.
-#[tactic(auto, unfolding(crate::specs::Reading::token_at))]
+#[tactic(auto, unfolding(crate::specs::LeftToRight::token_at))]
 fn token_at(text: &str, place: u32) -> Result<(Kind, &str), LexFault>
     ensures cases { MatchResult result
         (λ x. token_at place (chars text.now) ≡ Ok (x.0, chars x.1.now))
@@ -249,7 +249,7 @@ fn token_at(text: &str, place: u32) -> Result<(Kind, &str), LexFault>
 
 /// What stands at the front of the text, which stands at the place: a token of the kind, or a blank
 /// or a comment. With it comes the text behind it.
-#[tactic(auto, unfolding(crate::specs::Reading::piece_at, crate::specs::Characters::has))]
+#[tactic(auto, unfolding(crate::specs::LeftToRight::piece_at, crate::specs::Characters::has))]
 pub(crate) fn piece_at(text: &str, place: u32) -> Result<(Option<Kind>, &str), LexFault>
     ensures cases { MatchResult result
         (λ x. piece_at place (chars text.now) ≡ Ok (x.0, chars x.1.now))

@@ -2,7 +2,7 @@ ghost use Rattle.std.specs.Prelude.{◌≡◌, ◌<◌, ◌++◌, ◌∷◌, [],
 ghost use Rattle.std.specs.Str.{chars, IsUtf8};
 ghost use Rattle.std.specs.List.{list_all};
 ghost use Rattle.og_lex.specs.Characters.{has, run, behind, is_ascii_char};
-ghost use Rattle.og_lex.specs.Reading.{strip};
+ghost use Rattle.og_lex.specs.LeftToRight.{strip};
 
 use crate::class::Class;
 

@@ -1,4 +1,4 @@
-use Rattle.og_lex.proofs.Single.{one-lexing}
+use Rattle.og_lex.proofs.OneLexing.{one-lexing}
 use Rattle.og_lex.proofs.laws.one_lexing.Goals as goal
 
 pub returns : goal.returns

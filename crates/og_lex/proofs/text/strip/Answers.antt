@@ -1,4 +1,4 @@
-use Rattle.og_lex.proofs.Strips.{stripped}
+use Rattle.og_lex.proofs.Strip.{stripped}
 use Rattle.og_lex.proofs.text.strip.Goals as goal
 
 pub returns-clause-cases : goal.returns-clause-cases

@@ -3,32 +3,31 @@ use Rattle.std.proofs.Common.{◌≡◌, inl, inr, ℕ, true, cond, List, [], �
 use Rattle.std.specs.Prelude.{encode_utf8_all, Some, ◌==◌}
 use Rattle.std.specs.List.{list_all}
 use Rattle.std.specs.Cmp.Lexicographic.{same_text}
-use Rattle.std.proofs.lemmas.Bool.{eq-eqb}
+use Rattle.std.proofs.lemmas.Bool.{eq-eqb, cases_Bool, and_from}
 use Rattle.std.proofs.lemmas.Str.{encodes_same}
 use Rattle.og_lex.specs.declared.token.Word.{Word}
 use Rattle.og_lex.specs.declared.token.Word.TheVariants as words
 use Rattle.og_lex.specs.Characters.{is_ascii_char}
 use Rattle.og_lex.specs.Tables.{word_text, all_words}
-use Rattle.og_lex.specs.Reading.{same, word_among, word_of}
-use Rattle.og_lex.proofs.Strips.{ascii-encodes}
-use Rattle.og_lex.proofs.Tools.{either_way, both-yes}
+use Rattle.og_lex.specs.LeftToRight.{same, word_among, word_of}
+use Rattle.og_lex.proofs.Strip.{ascii-encodes}
 
 pub same-true : (xs ys : List ℕ) → same xs ys ≡ true → xs ≡ ys
 same-true xs ys e = same_text xs ys (sym e)
 
 pub same-refl : (xs : List ℕ) → same xs xs ≡ true
 same-refl [] = refl
-same-refl (x ∷ xs) = both-yes (x == x) (same xs xs) (eq-eqb x x refl) (same-refl xs)
+same-refl (x ∷ xs) = and_from (x == x) (same xs xs) (eq-eqb x x refl) (same-refl xs)
 
 same-encodes : (front cs : List ℕ) → list_all is_ascii_char front ≡ true → same front (encode_utf8_all cs) ≡ same front cs
 same-encodes front cs a =
-    elim (either_way (same front cs)) [
+    elim (cases_Bool (same front cs)) [
       | inl holds ↦
           let at : front ≡ cs = same-true front cs holds in
           let own : encode_utf8_all cs ≡ front = ap encode_utf8_all (sym at) ∙ ascii-encodes front a in
           ap (same front) own ∙ same-refl front ∙ sym holds
       | inr differs ↦
-          elim (either_way (same front (encode_utf8_all cs))) [
+          elim (cases_Bool (same front (encode_utf8_all cs))) [
             | inl holds ↦
                 let at : front ≡ cs = encodes_same front cs (ascii-encodes front a ∙ same-true front (encode_utf8_all cs) holds) in
                 holds ∙ sym (ap (same front) (sym at) ∙ same-refl front)

@@ -2,15 +2,16 @@
 use Rattle.std.proofs.Common.{◌≡◌, inl, inr, ℕ, zero, suc, ◌≤◌, Bool, true, List, [], ◌∷◌, length, refl, sym, ap, ◌∙◌, subst, arith}
 use Rattle.std.specs.Prelude.{Option, Some, None, ◌&&◌, nat_le, slice_get}
 use Rattle.std.specs.List.{list_all, find}
-use Rattle.std.proofs.lemmas.Bool.{leb-true}
+use Rattle.std.proofs.lemmas.Option.{same_Some}
+use Rattle.std.proofs.lemmas.Bool.{leb-true, and_parts}
 use Rattle.og_lex.specs.declared.token.Word.{Word}
 use Rattle.og_lex.specs.declared.token.Word.TheVariants as words
 use Rattle.og_lex.specs.declared.token.Mark.{Mark}
 use Rattle.og_lex.specs.declared.token.Mark.TheVariants as marks
 use Rattle.og_lex.specs.Tables.{word_text, mark_text, all_words, all_marks}
-use Rattle.og_lex.specs.Reading.{same, strip, word_among, word_of, or_mark, mark_among, mark_at}
-use Rattle.og_lex.proofs.Tools.{chosen, both, some-same}
-use Rattle.og_lex.proofs.Words.{same-true}
+use Rattle.og_lex.specs.LeftToRight.{same, strip, word_among, word_of, or_mark, mark_among, mark_at}
+use Rattle.og_lex.proofs.WordBytes.{same-true}
+use Rattle.og_lex.proofs.Strip.{cond_parts}
 
 -- each word is found under its text
 pub word_of-text : (w : Word) → word_of (word_text w) ≡ Some w
@@ -56,7 +57,7 @@ word_of-text words.Version = refl
 among-text : (ws : List Word) (name : List ℕ) (w : Word) → word_among ws name ≡ Some w → name ≡ word_text w
 among-text [] name w e = cc
 among-text (v ∷ ws) name w e =
-    elim (chosen (same (word_text v) name) (Some v) (word_among ws name) (Some w) e) [
+    elim (cond_parts (same (word_text v) name) (Some v) (word_among ws name) (Some w) e) [
       | inl h ↦ let at = same-true (word_text v) name h.0 in cc
       | inr h ↦ among-text ws name w h.1
     ]
@@ -138,7 +139,7 @@ named-text marks.Beside = refl
 find-named : (ms : List Mark) (text : List ℕ) (m : Mark) → find (λ k. same (mark_text k) text) ms ≡ Some m → text ≡ mark_text m
 find-named [] text m e = cc
 find-named (k ∷ ms) text m e =
-    elim (chosen (same (mark_text k) text) (Some k) (find (λ x. same (mark_text x) text) ms) (Some m) e) [
+    elim (cond_parts (same (mark_text k) text) (Some k) (find (λ x. same (mark_text x) text) ms) (Some m) e) [
       | inl h ↦ let at = same-true (mark_text k) text h.0 in cc
       | inr h ↦ find-named ms text m h.1
     ]
@@ -180,8 +181,8 @@ mark-short m = leb-true (length (mark_text m)) 3 (short m)
 
 all-at : (p : Mark → Bool) (ms : List Mark) (i : ℕ) (m : Mark) → list_all p ms ≡ true → slice_get ms i ≡ Some m → p m ≡ true
 all-at p [] i m a e = cc
-all-at p (k ∷ ms) zero m a e = let h = both (p k) (list_all p ms) a in let at : k ≡ m = cc in subst (λ x. p x ≡ true) at h.0
-all-at p (k ∷ ms) (suc i) m a e = all-at p ms i m (both (p k) (list_all p ms) a).1 e
+all-at p (k ∷ ms) zero m a e = let h = and_parts (p k) (list_all p ms) a in let at : k ≡ m = cc in subst (λ x. p x ≡ true) at h.0
+all-at p (k ∷ ms) (suc i) m a e = all-at p ms i m (and_parts (p k) (list_all p ms) a).1 e
 
 -- the mark that is found begins the characters, and none that does is longer
 pub record IsLongest (m : Mark) (ms : List Mark) (cs rest : List ℕ) : Type 0 where
@@ -189,13 +190,13 @@ pub record IsLongest (m : Mark) (ms : List Mark) (cs rest : List ℕ) : Type 0 w
   pub longest : (k : Mark) (i : ℕ) (after : List ℕ) → slice_get ms i ≡ Some k → strip (mark_text k) cs ≡ Some after → length (mark_text k) ≤ length (mark_text m)
 
 no_longer : (v : Mark) (ms : List Mark) → list_all (λ k. nat_le (length (mark_text k)) (length (mark_text v))) ms ≡ true → (k : Mark) (i : ℕ) → slice_get (v ∷ ms) i ≡ Some k → length (mark_text k) ≤ length (mark_text v)
-no_longer v ms a k zero e = let at : v ≡ k = some-same v k e in subst (λ x. length (mark_text x) ≤ length (mark_text v)) at (omega arith)
+no_longer v ms a k zero e = let at : v ≡ k = cc in subst (λ x. length (mark_text x) ≤ length (mark_text v)) at (omega arith)
 no_longer v ms a k (suc i) e = leb-true (length (mark_text k)) (length (mark_text v)) (all-at (λ x. nat_le (length (mark_text x)) (length (mark_text v))) ms i k a e)
 
 behind_other : (v : Mark) (ms : List Mark) (cs : List ℕ) (m k : Mark) (i : ℕ) (after : List ℕ) → strip (mark_text v) cs ≡ None → strip (mark_text k) cs ≡ Some after → slice_get (v ∷ ms) i ≡ Some k
     → ((j : ℕ) (rest : List ℕ) → slice_get ms j ≡ Some k → strip (mark_text k) cs ≡ Some rest → length (mark_text k) ≤ length (mark_text m)) → length (mark_text k) ≤ length (mark_text m)
 behind_other v ms cs m k zero after b s e more =
-    let at : v ≡ k = some-same v k e in
+    let at : v ≡ k = cc in
     let c : strip (mark_text k) cs ≡ None = subst (λ x. strip (mark_text x) cs ≡ None) at b in
     cc
 behind_other v ms cs m k (suc i) after b s e more = more i after e s
@@ -204,7 +205,7 @@ found-here : (v : Mark) (ms : List Mark) (cs rest : List ℕ) (m : Mark) → lis
     → (mark_among ms cs ≡ Some (m, rest) → IsLongest m ms cs rest)
     → (o : Option (List ℕ)) → strip (mark_text v) cs ≡ o → or_mark v o (mark_among ms cs) ≡ Some (m, rest) → IsLongest m (v ∷ ms) cs rest
 found-here v ms cs rest m a more (Some r) b e =
-    let pair : (v, r) ≡ (m, rest) = some-same (v, r) (m, rest) e in
+    let pair = same_Some (v, r) (m, rest) e in
     let at : v ≡ m = ap (λ p. p.0) pair in
     let behind : r ≡ rest = ap (λ p. p.1) pair in
     record {
@@ -219,14 +220,14 @@ found-longest : (ms : List Mark) (cs rest : List ℕ) (m : Mark) → descends ms
 unfolding descends
 found-longest [] cs rest m d e = cc
 found-longest (v ∷ ms) cs rest m d e =
-    let h = both (list_all (λ k. nat_le (length (mark_text k)) (length (mark_text v))) ms) (descends ms) d in
+    let h = and_parts (list_all (λ k. nat_le (length (mark_text k)) (length (mark_text v))) ms) (descends ms) d in
     found-here v ms cs rest m h.0 (λ f. found-longest ms cs rest m h.1 f) (strip (mark_text v) cs) refl e
 
 none-here : (v : Mark) (ms : List Mark) (cs after : List ℕ) (k : Mark) (i : ℕ) → (mark_among ms cs ≡ None → (j : ℕ) → slice_get ms j ≡ Some k → strip (mark_text k) cs ≡ Some after → ⊥)
     → (o : Option (List ℕ)) → strip (mark_text v) cs ≡ o → or_mark v o (mark_among ms cs) ≡ None → slice_get (v ∷ ms) i ≡ Some k → strip (mark_text k) cs ≡ Some after → ⊥
 none-here v ms cs after k i more (Some r) s e at b = cc
 none-here v ms cs after k zero more None s e at b =
-    let here : v ≡ k = some-same v k at in
+    let here : v ≡ k = cc in
     let c : strip (mark_text k) cs ≡ None = subst (λ x. strip (mark_text x) cs ≡ None) here s in
     cc
 none-here v ms cs after k (suc i) more None s e at b = more e i at b

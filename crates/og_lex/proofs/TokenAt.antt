@@ -3,7 +3,7 @@ use Rattle.std.proofs.Common.{◌≡◌, ◌≢◌, ◌⊎◌, inl, inr, ℕ, �
 use Rattle.std.specs.Prelude.{Option, Some, None, Result, Ok, Err, ◌==◌, nat_lt}
 use Rattle.std.specs.List.{list_all}
 use Rattle.std.specs.Str.Parse.{digits_value}
-use Rattle.std.proofs.lemmas.Bool.{eqb-true, eq-eqb, ltb-true, ltb-false, le-ltb, cond-true, cond-false}
+use Rattle.std.proofs.lemmas.Bool.{eqb-true, eq-eqb, ltb-true, ltb-false, le-ltb, cond-true, cond-false, and_parts, and_from, cond_both}
 use Rattle.unicode_ident.specs.Ident.{is_xid_start, is_xid_continue}
 use Rattle.unicode_ident.proofs.IdentLemmas.{is_xid_continue-ascii, is_xid_start-is_xid_continue}
 use Rattle.og_lex.specs.declared.token.Kind.{Kind}
@@ -14,16 +14,15 @@ use Rattle.og_lex.specs.declared.fault.LexFault.{LexFault}
 use Rattle.og_lex.specs.declared.fault.LexFault.TheVariants as faults
 use Rattle.og_lex.specs.Characters.{is_blank, is_digit, is_hyphen, is_in_text, is_ascii_char, run, behind, byte_len}
 use Rattle.og_lex.specs.Tables.{mark_text}
-use Rattle.og_lex.specs.Reading.{strip, kind_of, word_of, name_at, under_at, number_of, numbered, number_at, closed, text_at, separator_end, mark_at, marked, separated, symbol_at, token_at}
+use Rattle.og_lex.specs.LeftToRight.{strip, kind_of, word_of, name_at, under_at, number_of, number_or_fault, number_at, text_or_fault, text_at, separator_end, mark_at, mark_or_fault, separator_or, symbol_at, token_at}
 use Rattle.og_lex.specs.Spelling.{Spells, is_name, Begins, IsTokenAt, fault_of}
-use Rattle.og_lex.proofs.Tools.{both, both-yes, some-same, by_test}
 use Rattle.og_lex.proofs.Texts.{run-yes}
-use Rattle.og_lex.proofs.Runs.{run-behind, behind-stops, front-le-run, run-exact, behind-exact}
+use Rattle.og_lex.proofs.CharacterRuns.{run-behind, behind-stops, front-le-run, run-exact, behind-exact}
 use Rattle.og_lex.proofs.Numbers.{run-all}
-use Rattle.og_lex.proofs.Strips.{strip-is, strip-append, ascii-encodes}
-use Rattle.og_lex.proofs.Lengths.{length-le-byte_len}
-use Rattle.og_lex.proofs.Sorts.{letter, line, digit, quote, symbol, sort_from, kind_sort, sort_of, sort_of-ascii, sort_of-starts, sort_of-digit, spelled-sort, spelled-some, word-is_name}
-use Rattle.og_lex.proofs.Tabled.{word_of-text, word_of-is, mark-short, mark_at-found, mark_at-none}
+use Rattle.og_lex.proofs.Strip.{strip-is, strip-append, ascii-encodes}
+use Rattle.og_lex.proofs.ByteLen.{length-le-byte_len}
+use Rattle.og_lex.proofs.FirstCharacter.{letter, line, digit, quote, symbol, sort_from, kind_sort, sort_of, sort_of-ascii, sort_of-starts, sort_of-digit, spelled-sort, spelled-some, word-is_name}
+use Rattle.og_lex.proofs.TableLookups.{word_of-text, word_of-is, mark-short, mark_at-found, mark_at-none}
 
 -- a token of the kind is taken at the front of the characters, and rest follows it
 pub record IsTaken (kind : Kind) (cs rest : List ℕ) : Type 0 where
@@ -42,21 +41,15 @@ abbrev pub Tells : ℕ → ℕ → List ℕ → Result (Kind × List ℕ) LexFau
 Tells place c cs (Ok (kind, rest)) = IsTaken kind (c ∷ cs) rest
 Tells place c cs (Err fault) = NoneBegins (c ∷ cs) × (fault ≡ fault_of place c)
 
-head-same : (c d : ℕ) (cs ds : List ℕ) → c ∷ cs ≡ d ∷ ds → c ≡ d
-head-same c d cs ds e = cc
-
-tail-same : (c d : ℕ) (cs ds : List ℕ) → c ∷ cs ≡ d ∷ ds → cs ≡ ds
-tail-same c d cs ds e = cc
-
 pub begins-sort : (kind : Kind) (front rest : List ℕ) (c : ℕ) (cs : List ℕ) → front ++ rest ≡ c ∷ cs → Begins kind front rest → sort_of c ≡ kind_sort kind
 begins-sort kind [] rest c cs e b = absurd (spelled-some kind [] b.spelled refl)
-begins-sort kind (d ∷ front) rest c cs e b = ap sort_of (sym (head-same d c (front ++ rest) cs e)) ∙ spelled-sort kind d front b.spelled
+begins-sort kind (d ∷ front) rest c cs e b = let at : d ≡ c = cc in ap sort_of (sym at) ∙ spelled-sort kind d front b.spelled
 
 names-continue : (front : List ℕ) → is_name front ≡ true → list_all is_xid_continue front ≡ true
 names-continue [] e = refl
 names-continue (c ∷ cs) e =
-    let h = both (is_xid_start c) (list_all is_xid_continue cs) e in
-    both-yes (is_xid_continue c) (list_all is_xid_continue cs) (is_xid_start-is_xid_continue c h.0) h.1
+    let h = and_parts (is_xid_start c) (list_all is_xid_continue cs) e in
+    and_from (is_xid_continue c) (list_all is_xid_continue cs) (is_xid_start-is_xid_continue c h.0) h.1
 
 -- names and reserved words
 name-longest : (kind : Kind) (front rest : List ℕ) (c : ℕ) (cs : List ℕ) → sort_of c ≡ letter → front ++ rest ≡ c ∷ cs → Begins kind front rest → length front ≤ length (run is_xid_continue (c ∷ cs))
@@ -79,7 +72,7 @@ name-told place c cs s =
     let goes : is_xid_continue c ≡ true = is_xid_start-is_xid_continue c s in
     let front : run is_xid_continue (c ∷ cs) ≡ c ∷ run is_xid_continue cs = run-yes is_xid_continue c cs goes in
     let name : is_name (run is_xid_continue (c ∷ cs)) ≡ true =
-    ap is_name front ∙ both-yes (is_xid_start c) (list_all is_xid_continue (run is_xid_continue cs)) s (run-all is_xid_continue cs) in
+    ap is_name front ∙ and_from (is_xid_start c) (list_all is_xid_continue (run is_xid_continue cs)) s (run-all is_xid_continue cs) in
     let whole = run-behind is_xid_continue (c ∷ cs) in
     record {
       front = run is_xid_continue (c ∷ cs);
@@ -98,7 +91,7 @@ two (c ∷ cs) some = omega arith
 under-all : (front : List ℕ) → Spells kinds.Under front → (list_all is_xid_continue front ≡ true) × (2 ≤ length front)
 under-all front s =
     let goes : is_xid_continue 95 ≡ true = is_xid_continue-ascii 95 (lit< tt) in
-    (ap (list_all is_xid_continue) s.1 ∙ both-yes (is_xid_continue 95) (list_all is_xid_continue s.0) goes s.3, omega (arith, ap length s.1, two s.0 s.2))
+    (ap (list_all is_xid_continue) s.1 ∙ and_from (is_xid_continue 95) (list_all is_xid_continue s.0) goes s.3, omega (arith, ap length s.1, two s.0 s.2))
 
 under-longest : (kind : Kind) (front rest : List ℕ) (c : ℕ) (cs : List ℕ) → sort_of c ≡ line → front ++ rest ≡ c ∷ cs → Begins kind front rest → (length front ≤ length (run is_xid_continue (c ∷ cs))) × (2 ≤ length front)
 under-longest kinds.Under front rest c cs s e b =
@@ -123,7 +116,7 @@ under-told place c cs at =
     let sort : sort_of c ≡ line = ap sort_of at ∙ sort_of-ascii 95 (lit< tt) in
     let front : run is_xid_continue (c ∷ cs) ≡ c ∷ run is_xid_continue cs = run-yes is_xid_continue c cs goes in
     let whole = run-behind is_xid_continue (c ∷ cs) in
-    by_test (Tells place c cs) (nat_lt 1 (byte_len (run is_xid_continue (c ∷ cs)))) (Ok (kinds.Under, behind is_xid_continue (c ∷ cs))) (Err (faults.BadChar place))
+    cond_both (nat_lt 1 (byte_len (run is_xid_continue (c ∷ cs)))) (Ok (kinds.Under, behind is_xid_continue (c ∷ cs))) (Err (faults.BadChar place)) (Tells place c cs)
     (λ long. record {
       front = run is_xid_continue (c ∷ cs);
       whole = whole;
@@ -170,14 +163,14 @@ number-told place c cs d =
     let front : run is_digit (c ∷ cs) ≡ c ∷ ds = run-yes is_digit c cs d in
     let whole : c ∷ cs ≡ (c ∷ ds) ++ rest = run-behind is_digit (c ∷ cs) ∙ ap (λ l. l ++ rest) front in
     let sort : sort_of c ≡ digit = sort_of-digit c d in
-    let Told : List ℕ → Type 0 = λ l. Tells place c cs (numbered place (number_of l) rest) in
-    subst Told (sym front) (by_test (λ o. Tells place c cs (numbered place o rest)) (nat_lt (digits_value 10 (c ∷ ds)) (2 ^ 63)) (Some (digits_value 10 (c ∷ ds))) None
+    let Told : List ℕ → Type 0 = λ l. Tells place c cs (number_or_fault place (number_of l) rest) in
+    subst Told (sym front) (cond_both (nat_lt (digits_value 10 (c ∷ ds)) (2 ^ 63)) (Some (digits_value 10 (c ∷ ds))) None (λ o. Tells place c cs (number_or_fault place o rest))
     (λ small. record {
       front = c ∷ ds;
       whole = whole;
       taken = record {
         begins = record {
-          spelled = ((λ e. cc), both-yes (is_digit c) (list_all is_digit ds) d (run-all is_digit cs), refl, ltb-true (digits_value 10 (c ∷ ds)) (2 ^ 63) small);
+          spelled = ((λ e. cc), and_from (is_digit c) (list_all is_digit ds) d (run-all is_digit cs), refl, ltb-true (digits_value 10 (c ∷ ds)) (2 ^ 63) small);
           may_end = behind-stops is_digit (c ∷ cs);
         };
         longest = λ kind f r e b. let h = number-only kind f r c cs sort (e ∙ sym whole) b in omega (arith, ap length (sym h.0 ∙ front));
@@ -196,7 +189,7 @@ text-only : (kind : Kind) (front rest : List ℕ) (c : ℕ) (cs : List ℕ) → 
 text-only kinds.Text front rest c cs s e b =
     let inside : List ℕ = b.spelled.0 in
     let after : (34 ∷ (inside ++ 34 ∷ [])) ++ rest ≡ c ∷ cs = ap (λ l. l ++ rest) (sym b.spelled.1) ∙ e in
-    let tail : (inside ++ 34 ∷ []) ++ rest ≡ cs = tail-same 34 c ((inside ++ 34 ∷ []) ++ rest) cs after in
+    let tail : (inside ++ 34 ∷ []) ++ rest ≡ cs = cc in
     let split : inside ++ (34 ∷ rest) ≡ cs = sym (append_assoc inside (34 ∷ []) rest) ∙ tail in
     ap (λ l. strip (34 ∷ []) (behind is_in_text l)) (sym split)
     ∙ ap (strip (34 ∷ [])) (behind-exact is_in_text inside (34 ∷ rest) b.spelled.2 refl)
@@ -227,12 +220,12 @@ text-found place c cs rest at e =
         longest = λ kind f r g b.
             let here : f ++ r ≡ c ∷ cs = g ∙ sym whole in
             let t = text-only kind f r c cs sort here b in
-            let one : r ≡ rest = some-same r rest (sym t ∙ e) in
+            let one : r ≡ rest = cc in
             omega (arith, same-length f r (34 ∷ (inside ++ 34 ∷ [])) rest (c ∷ cs) here (sym whole) one);
       };
     }
 
-text-closed : (place c : ℕ) (cs : List ℕ) → c ≡ 34 → (o : Option (List ℕ)) → strip (34 ∷ []) (behind is_in_text cs) ≡ o → Tells place c cs (closed place o)
+text-closed : (place c : ℕ) (cs : List ℕ) → c ≡ 34 → (o : Option (List ℕ)) → strip (34 ∷ []) (behind is_in_text cs) ≡ o → Tells place c cs (text_or_fault place o)
 text-closed place c cs at (Some rest) e = text-found place c cs rest at e
 text-closed place c cs at None e = (
   (λ kind f r g b. let t = text-only kind f r c cs (ap sort_of at ∙ sort_of-ascii 34 (lit< tt)) g b in cc),
@@ -247,8 +240,8 @@ text-told place c cs at = text-closed place c cs at (strip (34 ∷ []) (behind i
 hyphens-ascii : (hs : List ℕ) → list_all is_hyphen hs ≡ true → list_all is_ascii_char hs ≡ true
 hyphens-ascii [] e = refl
 hyphens-ascii (h ∷ hs) e =
-    let p = both (is_hyphen h) (list_all is_hyphen hs) e in
-    both-yes (is_ascii_char h) (list_all is_ascii_char hs) (ap is_ascii_char (eqb-true h 45 p.0)) (hyphens-ascii hs p.1)
+    let p = and_parts (is_hyphen h) (list_all is_hyphen hs) e in
+    and_from (is_ascii_char h) (list_all is_ascii_char hs) (ap is_ascii_char (eqb-true h 45 p.0)) (hyphens-ascii hs p.1)
 
 hyphens-length : (hs : List ℕ) → list_all is_hyphen hs ≡ true → byte_len hs ≡ length hs
 unfolding byte_len
@@ -263,8 +256,8 @@ unfolding separator_end
 separator-ends front rest c cs e s =
     let hs : List ℕ = s.0 in
     let after : (58 ∷ (hs ++ 58 ∷ [])) ++ rest ≡ c ∷ cs = ap (λ l. l ++ rest) (sym s.1) ∙ e in
-    let at : 58 ≡ c = head-same 58 c ((hs ++ 58 ∷ []) ++ rest) cs after in
-    let tail : (hs ++ 58 ∷ []) ++ rest ≡ cs = tail-same 58 c ((hs ++ 58 ∷ []) ++ rest) cs after in
+    let at : 58 ≡ c = cc in
+    let tail : (hs ++ 58 ∷ []) ++ rest ≡ cs = cc in
     let split : hs ++ (58 ∷ rest) ≡ cs = sym (append_assoc hs (58 ∷ []) rest) ∙ tail in
     let ran : run is_hyphen cs ≡ hs = ap (run is_hyphen) (sym split) ∙ run-exact is_hyphen hs (58 ∷ rest) s.2 refl in
     let left : behind is_hyphen cs ≡ 58 ∷ rest = ap (behind is_hyphen) (sym split) ∙ behind-exact is_hyphen hs (58 ∷ rest) s.2 refl in
@@ -318,7 +311,7 @@ separator-found c cs rest sort e =
         longest = λ kind f r g b.
             let here : f ++ r ≡ c ∷ cs = g ∙ sym whole in
             elim (symbol-kinds kind f r c cs sort here b) [
-              | inl t ↦ omega (arith, same-length f r front rest (c ∷ cs) here (sym whole) (some-same r rest (sym t ∙ e)))
+              | inl t ↦ let one : r ≡ rest = cc in omega (arith, same-length f r front rest (c ∷ cs) here (sym whole) one)
               | inr t ↦ omega (arith, ap length t.1, mark-short t.0, p.1, length-append hs (58 ∷ []))
             ];
       };
@@ -342,7 +335,7 @@ mark-found c cs rest m sort none e =
     }
 
 symbol-separated : (place c : ℕ) (cs : List ℕ) → sort_of c ≡ symbol → is_digit c ≡ false → (c == 34) ≡ false
-    → (s : Option (List ℕ)) → separator_of c cs ≡ s → (o : Option (Mark × List ℕ)) → mark_at (c ∷ cs) ≡ o → Tells place c cs (separated s (marked place o))
+    → (s : Option (List ℕ)) → separator_of c cs ≡ s → (o : Option (Mark × List ℕ)) → mark_at (c ∷ cs) ≡ o → Tells place c cs (separator_or s (mark_or_fault place o))
 symbol-separated place c cs sort d q (Some rest) e o f = separator-found c cs rest sort e
 symbol-separated place c cs sort d q None e (Some (m, rest)) f = mark-found c cs rest m sort e f
 symbol-separated place c cs sort d q None e None f = (
@@ -369,12 +362,12 @@ other-sort c b s u d q =
 pub token-told : (place c : ℕ) (cs : List ℕ) → is_blank c ≡ false → Tells place c cs (token_at place (c ∷ cs))
 unfolding token_at
 token-told place c cs b =
-    by_test (Tells place c cs) (is_xid_start c) (Ok (name_at (c ∷ cs))) (cond (c == 95) (under_at place (c ∷ cs)) (cond (is_digit c) (number_at place (c ∷ cs)) (cond (c == 34) (text_at place cs) (symbol_at place c cs (c ∷ cs)))))
+    cond_both (is_xid_start c) (Ok (name_at (c ∷ cs))) (cond (c == 95) (under_at place (c ∷ cs)) (cond (is_digit c) (number_at place (c ∷ cs)) (cond (c == 34) (text_at place cs) (symbol_at place c cs (c ∷ cs))))) (Tells place c cs)
     (λ starts. name-told place c cs starts)
-    (λ s. by_test (Tells place c cs) (c == 95) (under_at place (c ∷ cs)) (cond (is_digit c) (number_at place (c ∷ cs)) (cond (c == 34) (text_at place cs) (symbol_at place c cs (c ∷ cs))))
+    (λ s. cond_both (c == 95) (under_at place (c ∷ cs)) (cond (is_digit c) (number_at place (c ∷ cs)) (cond (c == 34) (text_at place cs) (symbol_at place c cs (c ∷ cs)))) (Tells place c cs)
     (λ at. under-told place c cs (eqb-true c 95 at))
-    (λ u. by_test (Tells place c cs) (is_digit c) (number_at place (c ∷ cs)) (cond (c == 34) (text_at place cs) (symbol_at place c cs (c ∷ cs)))
+    (λ u. cond_both (is_digit c) (number_at place (c ∷ cs)) (cond (c == 34) (text_at place cs) (symbol_at place c cs (c ∷ cs))) (Tells place c cs)
     (λ d. number-told place c cs d)
-    (λ d. by_test (Tells place c cs) (c == 34) (text_at place cs) (symbol_at place c cs (c ∷ cs))
+    (λ d. cond_both (c == 34) (text_at place cs) (symbol_at place c cs (c ∷ cs)) (Tells place c cs)
     (λ at. text-told place c cs (eqb-true c 34 at))
     (λ q. symbol-told place c cs (other-sort c b s u d q) d q))))

@@ -1,21 +1,25 @@
 -- What follows a front, in a list of characters and in the bytes that they take.
-use Rattle.std.proofs.Common.{◌≡◌, ◌≢◌, inl, inr, ℕ, true, cond, List, [], ◌∷◌, ◌++◌, refl, sym, ap, ◌∙◌, subst}
+use Rattle.std.proofs.Common.{◌≡◌, ◌≢◌, ◌⊎◌, inl, inr, ℕ, Bool, true, false, cond, List, [], ◌∷◌, ◌++◌, refl, sym, ap, ◌∙◌, subst}
 use Rattle.std.specs.Prelude.{encode_utf8_all, Option, Some, None, MatchOption, ◌==◌}
 use Rattle.std.specs.List.{list_all}
 use Rattle.std.specs.Str.{chars, IsUtf8, IsCharBoundary}
 use Rattle.std.specs.Str.Pattern.{FindsTextPrefix, StripsPrefix}
-use Rattle.std.proofs.lemmas.Bool.{eqb-true, eq-eqb, ltb-true}
+use Rattle.std.proofs.lemmas.Bool.{eqb-true, eq-eqb, ltb-true, and_parts}
 use Rattle.std.proofs.lemmas.Str.{encodes-append, encodes-chars, cons_from_encodes, encode_ascii, chars_from_encodes, IsUtf8-drop}
 use Rattle.og_lex.specs.Characters.{is_ascii_char}
-use Rattle.og_lex.specs.Reading.{strip}
-use Rattle.og_lex.proofs.Tools.{chosen, both}
+use Rattle.og_lex.specs.LeftToRight.{strip}
 use denote.Ref.{Bor}
+
+-- which way a choice went
+pub cond_parts : {A : Type 0} (b : Bool) (x y z : A) → cond b x y ≡ z → ((b ≡ true) × (x ≡ z)) ⊎ ((b ≡ false) × (y ≡ z))
+cond_parts true x y z e = inl (refl, e)
+cond_parts false x y z e = inr (refl, e)
 
 pub strip-is : (front cs rest : List ℕ) → strip front cs ≡ Some rest → cs ≡ front ++ rest
 strip-is [] cs rest e = cc
 strip-is (x ∷ front) [] rest e = cc
 strip-is (x ∷ front) (c ∷ cs) rest e =
-    elim (chosen (x == c) (strip front cs) None (Some rest) e) [
+    elim (cond_parts (x == c) (strip front cs) None (Some rest) e) [
       | inl h ↦ let at : x ≡ c = eqb-true x c h.0 in let more = strip-is front cs rest h.1 in cc
       | inr h ↦ cc
     ]
@@ -28,14 +32,14 @@ strip-append (x ∷ front) rest = ap (λ b. cond b (strip front (front ++ rest))
 pub ascii-encodes : (front : List ℕ) → list_all is_ascii_char front ≡ true → encode_utf8_all front ≡ front
 ascii-encodes [] e = refl
 ascii-encodes (x ∷ front) e =
-    let h = both (is_ascii_char x) (list_all is_ascii_char front) e in
+    let h = and_parts (is_ascii_char x) (list_all is_ascii_char front) e in
     ap (λ l. l ++ encode_utf8_all front) (encode_ascii x (ltb-true x 128 h.0)) ∙ ap (λ l. x ∷ l) (ascii-encodes front h.1)
 
 -- what follows an ASCII front of the bytes of characters is bytes of characters
 pub behind_ascii : (front cs bytes : List ℕ) → list_all is_ascii_char front ≡ true → encode_utf8_all cs ≡ front ++ bytes → (rest : List ℕ) × (cs ≡ front ++ rest) × (encode_utf8_all rest ≡ bytes)
 behind_ascii [] cs bytes a e = (cs, refl, e)
 behind_ascii (x ∷ front) cs bytes a e =
-    let h = both (is_ascii_char x) (list_all is_ascii_char front) a in
+    let h = and_parts (is_ascii_char x) (list_all is_ascii_char front) a in
     let first = cons_from_encodes cs (front ++ bytes) x (e ∙ ap (λ l. l ++ (front ++ bytes)) (sym (encode_ascii x (ltb-true x 128 h.0)))) in
     let more = behind_ascii front first.0 bytes h.1 first.2 in
     (more.0, first.1 ∙ ap (λ l. x ∷ l) more.1, more.2)

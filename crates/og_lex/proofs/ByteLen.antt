@@ -1,5 +1,5 @@
 -- How many bytes characters take.
-use Rattle.std.proofs.Common.{◌≡◌, ℕ, ◌+◌, ◌≤◌, List, ◌++◌, length, ap, ◌∙◌, length-append}
+use Rattle.std.proofs.Common.{◌≡◌, ◌≢◌, ℕ, ◌+◌, ◌<◌, ◌≤◌, List, [], ◌∷◌, ◌++◌, length, refl, ap, ◌∙◌, arith, length-append}
 use Rattle.std.specs.Prelude.{encode_utf8_all}
 use Rattle.std.specs.Str.{chars, IsUtf8}
 use Rattle.std.proofs.lemmas.Str.{encodes-chars, encodes-append, length-le-encodes}
@@ -17,3 +17,12 @@ byte_len-append xs ys = ap length (encodes-append xs ys) ∙ length-append (enco
 pub length-le-byte_len : (xs : List ℕ) → length xs ≤ byte_len xs
 unfolding byte_len
 length-le-byte_len xs = length-le-encodes xs
+
+pub byte_len-nil : byte_len [] ≡ 0
+unfolding byte_len
+byte_len-nil = refl
+
+-- a list that is not empty has an element
+pub some_length : (xs : List ℕ) → xs ≢ [] → 0 < length xs
+some_length [] some = absurd (some refl)
+some_length (x ∷ xs) some = omega arith

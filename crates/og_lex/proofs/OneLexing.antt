@@ -13,12 +13,12 @@ use Rattle.og_lex.specs.declared.fault.LexFault.{LexFault}
 use Rattle.og_lex.specs.declared.fault.LexFault.TheVariants as faults
 use Rattle.og_lex.specs.Characters.{is_blank, is_in_comment, run, byte_len}
 use Rattle.og_lex.specs.Tables.{word_text}
-use Rattle.og_lex.specs.Reading.{kind_of, word_of}
-use Rattle.og_lex.specs.Spelling.{Spells, IsTokenAt, IsBlank, IsComment, Stands, Piece, written, AllStand, tokens_of, NothingStands, fault_of, FaultAt, Lexed}
-use Rattle.og_lex.proofs.Runs.{run-exact}
-use Rattle.og_lex.proofs.Sorts.{Sort, space, letter, line, digit, quote, symbol, kind_sort, sort_of-blank, spelled-sort, spelled-some}
-use Rattle.og_lex.proofs.Readings.{begins-sort}
-use Rattle.og_lex.proofs.Tabled.{word_of-text, word_of-is, mark-short, named, named-text, named-is}
+use Rattle.og_lex.specs.LeftToRight.{kind_of, word_of}
+use Rattle.og_lex.specs.Spelling.{Spells, IsTokenAt, IsBlank, IsComment, Stands, Piece, characters_of, AllStand, tokens_of, NothingStands, fault_of, FaultAt, Lexed}
+use Rattle.og_lex.proofs.CharacterRuns.{run-exact}
+use Rattle.og_lex.proofs.FirstCharacter.{Sort, space, letter, line, digit, quote, symbol, kind_sort, sort_of-blank, spelled-sort, spelled-some}
+use Rattle.og_lex.proofs.TokenAt.{begins-sort}
+use Rattle.og_lex.proofs.TableLookups.{word_of-text, word_of-is, mark-short, named, named-text, named-is}
 
 -- the one kind of a sort that these characters spell
 abbrev marked_kind : Option Mark → Kind
@@ -58,18 +58,15 @@ same-kind k j (c ∷ front) s t =
     kind_from-spelled k (c ∷ front) s ∙ ap (λ x. kind_from x (c ∷ front)) sorts ∙ sym (kind_from-spelled j (c ∷ front) t)
 
 -- two cuts of one list at one place
-tails : (c d : ℕ) (cs ds : List ℕ) → c ∷ cs ≡ d ∷ ds → (c ≡ d) × (cs ≡ ds)
-tails c d cs ds e = (cc, cc)
-
 same-cut : (f g r s : List ℕ) → f ++ r ≡ g ++ s → length f ≡ length g → (f ≡ g) × (r ≡ s)
 same-cut [] [] r s e l = (refl, e)
 same-cut [] (d ∷ g) r s e l = absurd (omega arith)
 same-cut (c ∷ f) [] r s e l = absurd (omega arith)
 same-cut (c ∷ f) (d ∷ g) r s e l =
-    let t = tails c d (f ++ r) (g ++ s) e in
+    let tail : f ++ r ≡ g ++ s = cc in
     let m : length f ≡ length g = omega arith in
-    let more = same-cut f g r s t.1 m in
-    let h = t.0 in let k = more.0 in
+    let more = same-cut f g r s tail m in
+    let h : c ≡ d = cc in let k = more.0 in
     (cc, more.1)
 
 -- two pieces at one place are one
@@ -94,7 +91,7 @@ blanks-one f g r s e a b =
 comments-one : (f g r s : List ℕ) → f ++ r ≡ g ++ s → IsComment f r → IsComment g s → AreOne None None f g r s
 comments-one f g r s e a b =
     let left : codes "//" ++ (a.0 ++ r) ≡ codes "//" ++ (b.0 ++ s) = ap (λ l. l ++ r) (sym a.1) ∙ e ∙ ap (λ l. l ++ s) b.1 in
-    let inner : a.0 ++ r ≡ b.0 ++ s = (tails 47 47 (a.0 ++ r) (b.0 ++ s) (tails 47 47 (47 ∷ (a.0 ++ r)) (47 ∷ (b.0 ++ s)) left).1).1 in
+    let inner : a.0 ++ r ≡ b.0 ++ s = cc in
     let same : a.0 ≡ b.0 = sym (run-exact is_in_comment a.0 r a.2 a.3) ∙ ap (run is_in_comment) inner ∙ run-exact is_in_comment b.0 s b.2 b.3 in
     let fronts : f ≡ g = a.1 ∙ ap (λ l. codes "//" ++ l) same ∙ sym b.1 in
     let cut = same-cut f g r s e (ap length fronts) in
@@ -103,7 +100,7 @@ comments-one f g r s e a b =
 blank-comment : (f g r s : List ℕ) → f ++ r ≡ g ++ s → IsBlank f → IsComment g s → ⊥
 blank-comment f g r s e a b =
     let both : a.0 ∷ r ≡ 47 ∷ (47 ∷ (b.0 ++ s)) = ap (λ l. l ++ r) (sym a.1) ∙ e ∙ ap (λ l. l ++ s) b.1 in
-    let at = (tails a.0 47 r (47 ∷ (b.0 ++ s)) both).0 in
+    let at : a.0 ≡ 47 = cc in
     let f = ap is_blank at in let g = a.2 in cc
 
 no-space : (k : Kind) → kind_sort k ≡ space → ⊥
@@ -149,13 +146,13 @@ same-piece p q e f =
     let made : Option Kind → List ℕ → Piece = λ w l. record { what = w; front = l } in
     ap (λ w. made w p.front) e ∙ ap (made q.what) f
 
-one_row : (ps qs : List Piece) (r s : List ℕ) → AllStand ps r → AllStand qs s → written ps ++ r ≡ written qs ++ s → NothingStands r → NothingStands s → (ps ≡ qs) × (r ≡ s)
+one_row : (ps qs : List Piece) (r s : List ℕ) → AllStand ps r → AllStand qs s → characters_of ps ++ r ≡ characters_of qs ++ s → NothingStands r → NothingStands s → (ps ≡ qs) × (r ≡ s)
 one_row [] [] r s a b e n m = (refl, e)
-one_row [] (q ∷ qs) r s a b e n m = absurd (n q.what q.front (written qs ++ s) (sym (e ∙ append_assoc q.front (written qs) s)) b.0)
-one_row (p ∷ ps) [] r s a b e n m = absurd (m p.what p.front (written ps ++ r) (sym (append_assoc p.front (written ps) r) ∙ e) a.0)
+one_row [] (q ∷ qs) r s a b e n m = absurd (n q.what q.front (characters_of qs ++ s) (sym (e ∙ append_assoc q.front (characters_of qs) s)) b.0)
+one_row (p ∷ ps) [] r s a b e n m = absurd (m p.what p.front (characters_of ps ++ r) (sym (append_assoc p.front (characters_of ps) r) ∙ e) a.0)
 one_row (p ∷ ps) (q ∷ qs) r s a b e n m =
-    let split : p.front ++ (written ps ++ r) ≡ q.front ++ (written qs ++ s) = sym (append_assoc p.front (written ps) r) ∙ e ∙ append_assoc q.front (written qs) s in
-    let one = one_piece p.what q.what p.front q.front (written ps ++ r) (written qs ++ s) split a.0 b.0 in
+    let split : p.front ++ (characters_of ps ++ r) ≡ q.front ++ (characters_of qs ++ s) = sym (append_assoc p.front (characters_of ps) r) ∙ e ∙ append_assoc q.front (characters_of qs) s in
+    let one = one_piece p.what q.what p.front q.front (characters_of ps ++ r) (characters_of qs ++ s) split a.0 b.0 in
     let more = one_row ps qs r s a.1 b.1 one.rests n m in
     let here = same-piece p q one.whats one.fronts in
     let there = more.0 in
@@ -164,22 +161,22 @@ one_row (p ∷ ps) (q ∷ qs) r s a b e n m =
 -- what a row of pieces, and what stands behind it, says of a text
 abbrev outcome_of : List Piece → List ℕ → Result (List Token) LexFault
 outcome_of ps [] = Ok (tokens_of 0 ps)
-outcome_of ps (c ∷ cs) = Err (fault_of (byte_len (written ps)) c)
+outcome_of ps (c ∷ cs) = Err (fault_of (byte_len (characters_of ps)) c)
 
 record IsOutcome (text : List ℕ) (r : Result (List Token) LexFault) : Type 0 where
   pieces : List Piece
   rest : List ℕ
-  whole : chars text ≡ written pieces ++ rest
+  whole : chars text ≡ characters_of pieces ++ rest
   each : AllStand pieces rest
   nothing : NothingStands rest
   is : r ≡ outcome_of pieces rest
 
-fault-outcome : (text : List ℕ) (fault : LexFault) (ps : List Piece) (rest : List ℕ) → chars text ≡ written ps ++ rest → AllStand ps rest → FaultAt (byte_len (written ps)) rest fault → IsOutcome text (Err fault)
+fault-outcome : (text : List ℕ) (fault : LexFault) (ps : List Piece) (rest : List ℕ) → chars text ≡ characters_of ps ++ rest → AllStand ps rest → FaultAt (byte_len (characters_of ps)) rest fault → IsOutcome text (Err fault)
 fault-outcome text fault ps [] w e c = absurd c
 fault-outcome text fault ps (x ∷ rest) w e c = record { pieces = ps; rest = x ∷ rest; whole = w; each = e; nothing = c.0; is = ap Err c.1 }
 
 outcome-from : (text : List ℕ) (r : Result (List Token) LexFault) → Lexed text r → r ≢ Err faults.Memory → IsOutcome text r
-outcome-from text (Ok ts) l n = record { pieces = l.pieces; rest = []; whole = l.whole ∙ sym (append-nil (written l.pieces)); each = l.each; nothing = nothing-left; is = ap Ok l.tokens }
+outcome-from text (Ok ts) l n = record { pieces = l.pieces; rest = []; whole = l.whole ∙ sym (append-nil (characters_of l.pieces)); each = l.each; nothing = nothing-left; is = ap Ok l.tokens }
 outcome-from text (Err faults.Memory) l n = absurd (n refl)
 outcome-from text (Err (faults.BadChar p)) l n = fault-outcome text (faults.BadChar p) l.pieces l.rest l.whole l.each l.cause
 outcome-from text (Err (faults.OpenText p)) l n = fault-outcome text (faults.OpenText p) l.pieces l.rest l.whole l.each l.cause

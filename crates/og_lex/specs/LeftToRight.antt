@@ -44,31 +44,36 @@ unfoldable pub name_at : List ℕ → Kind × List ℕ
 name_at cs = (kind_of (word_of (run is_xid_continue cs)), behind is_xid_continue cs)
 
 unfoldable pub under_at : ℕ → List ℕ → Result (Kind × List ℕ) LexFault
-under_at place cs = if nat_lt 1 (byte_len (run is_xid_continue cs)) then Ok (kinds.Under, behind is_xid_continue cs) else Err (faults.BadChar place)
+under_at place cs =
+    if nat_lt 1 (byte_len (run is_xid_continue cs)) then Ok (kinds.Under, behind is_xid_continue cs)
+    else Err (faults.BadChar place)
 
 -- the value of one digit or more, if it is below 2 ^ 63
 abbrev pub number_of : List ℕ → Option ℕ
 number_of [] = None
-number_of (d ∷ ds) = if nat_lt (digits_value 10 (d ∷ ds)) (2 ^ 63) then Some (digits_value 10 (d ∷ ds)) else None
+number_of (d ∷ ds) =
+    if nat_lt (digits_value 10 (d ∷ ds)) (2 ^ 63) then Some (digits_value 10 (d ∷ ds)) else None
 
-abbrev pub numbered : ℕ → Option ℕ → List ℕ → Result (Kind × List ℕ) LexFault
-numbered place None rest = Err (faults.WideNumber place)
-numbered place (Some n) rest = Ok (kinds.Number n, rest)
+abbrev pub number_or_fault : ℕ → Option ℕ → List ℕ → Result (Kind × List ℕ) LexFault
+number_or_fault place None rest = Err (faults.WideNumber place)
+number_or_fault place (Some n) rest = Ok (kinds.Number n, rest)
 
 unfoldable pub number_at : ℕ → List ℕ → Result (Kind × List ℕ) LexFault
-number_at place cs = numbered place (number_of (run is_digit cs)) (behind is_digit cs)
+number_at place cs = number_or_fault place (number_of (run is_digit cs)) (behind is_digit cs)
 
-abbrev pub closed : ℕ → Option (List ℕ) → Result (Kind × List ℕ) LexFault
-closed place None = Err (faults.OpenText place)
-closed place (Some rest) = Ok (kinds.Text, rest)
+abbrev pub text_or_fault : ℕ → Option (List ℕ) → Result (Kind × List ℕ) LexFault
+text_or_fault place None = Err (faults.OpenText place)
+text_or_fault place (Some rest) = Ok (kinds.Text, rest)
 
 -- after is what follows the first double quote
 unfoldable pub text_at : ℕ → List ℕ → Result (Kind × List ℕ) LexFault
-text_at place after = closed place (strip (34 ∷ []) (behind is_in_text after))
+text_at place after = text_or_fault place (strip (34 ∷ []) (behind is_in_text after))
 
 -- what follows a separator whose first colon stands before these characters
 unfoldable pub separator_end : List ℕ → Option (List ℕ)
-separator_end after = if nat_lt (byte_len (run is_hyphen after)) 3 then None else strip (58 ∷ []) (behind is_hyphen after)
+separator_end after =
+    if nat_lt (byte_len (run is_hyphen after)) 3 then None
+    else strip (58 ∷ []) (behind is_hyphen after)
 
 -- the first of the marks with which the characters begin, and what follows it
 abbrev pub or_mark : Mark → Option (List ℕ) → Option (Mark × List ℕ) → Option (Mark × List ℕ)
@@ -82,17 +87,18 @@ mark_among (m ∷ ms) cs = or_mark m (strip (mark_text m) cs) (mark_among ms cs)
 unfoldable pub mark_at : List ℕ → Option (Mark × List ℕ)
 mark_at cs = mark_among all_marks cs
 
-abbrev pub marked : ℕ → Option (Mark × List ℕ) → Result (Kind × List ℕ) LexFault
-marked place None = Err (faults.BadChar place)
-marked place (Some (m, rest)) = Ok (kinds.Mark m, rest)
+abbrev pub mark_or_fault : ℕ → Option (Mark × List ℕ) → Result (Kind × List ℕ) LexFault
+mark_or_fault place None = Err (faults.BadChar place)
+mark_or_fault place (Some (m, rest)) = Ok (kinds.Mark m, rest)
 
-abbrev pub separated : Option (List ℕ) → Result (Kind × List ℕ) LexFault → Result (Kind × List ℕ) LexFault
-separated None other = other
-separated (Some rest) other = Ok (kinds.Separator, rest)
+abbrev pub separator_or : Option (List ℕ) → Result (Kind × List ℕ) LexFault → Result (Kind × List ℕ) LexFault
+separator_or None other = other
+separator_or (Some rest) other = Ok (kinds.Separator, rest)
 
 -- cs begins with c, and goes on with after
 unfoldable pub symbol_at : ℕ → ℕ → List ℕ → List ℕ → Result (Kind × List ℕ) LexFault
-symbol_at place c after cs = separated (if c == 58 then separator_end after else None) (marked place (mark_at cs))
+symbol_at place c after cs =
+    separator_or (if c == 58 then separator_end after else None) (mark_or_fault place (mark_at cs))
 
 -- the token at the place, and what follows it
 unfoldable pub token_at : ℕ → List ℕ → Result (Kind × List ℕ) LexFault

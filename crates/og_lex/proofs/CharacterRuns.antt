@@ -1,16 +1,16 @@
 -- Runs of characters that pass a test.
 use Rattle.std.proofs.Common.{◌≡◌, inl, inr, ℕ, ◌≤◌, Bool, true, List, [], ◌∷◌, ◌++◌, length, refl, sym, ap, ◌∙◌, subst, arith}
 use Rattle.std.specs.List.{list_all}
+use Rattle.std.proofs.lemmas.Bool.{cases_Bool, and_parts}
 use Rattle.og_lex.specs.Characters.{run, behind}
 use Rattle.og_lex.specs.Spelling.{Stops}
-use Rattle.og_lex.proofs.Tools.{either_way, both}
 use Rattle.og_lex.proofs.Texts.{run-yes, run-no, behind-yes, behind-no}
 
 -- a list is its longest front that passes, and the rest
 pub run-behind : (p : ℕ → Bool) (cs : List ℕ) → cs ≡ run p cs ++ behind p cs
 run-behind p [] = refl
 run-behind p (c ∷ cs) =
-    elim (either_way (p c)) [
+    elim (cases_Bool (p c)) [
       | inl holds ↦
           let more = run-behind p cs in
           ap (λ l. c ∷ l) more ∙ sym (ap (λ l. l ++ behind p cs) (run-yes p c cs holds)) ∙ ap (λ l. run p (c ∷ cs) ++ l) (sym (behind-yes p c cs holds))
@@ -21,7 +21,7 @@ run-behind p (c ∷ cs) =
 pub behind-stops : (p : ℕ → Bool) (cs : List ℕ) → Stops p (behind p cs)
 behind-stops p [] = tt
 behind-stops p (c ∷ cs) =
-    elim (either_way (p c)) [
+    elim (cases_Bool (p c)) [
       | inl holds ↦ subst (Stops p) (sym (behind-yes p c cs holds)) (behind-stops p cs)
       | inr stops ↦ subst (Stops p) (sym (behind-no p c cs stops)) stops
     ]
@@ -30,7 +30,7 @@ behind-stops p (c ∷ cs) =
 pub front-le-run : (p : ℕ → Bool) (front rest : List ℕ) → list_all p front ≡ true → length front ≤ length (run p (front ++ rest))
 front-le-run p [] rest a = omega arith
 front-le-run p (c ∷ front) rest a =
-    let h = both (p c) (list_all p front) a in
+    let h = and_parts (p c) (list_all p front) a in
     let more = front-le-run p front rest h.1 in
     let l : length (run p (c ∷ (front ++ rest))) ≡ length (c ∷ run p (front ++ rest)) = ap length (run-yes p c (front ++ rest) h.0) in
     omega arith
@@ -47,11 +47,11 @@ stops-behind p (c ∷ cs) s = behind-no p c cs s
 pub run-exact : (p : ℕ → Bool) (front rest : List ℕ) → list_all p front ≡ true → Stops p rest → run p (front ++ rest) ≡ front
 run-exact p [] rest a s = stops-run p rest s
 run-exact p (c ∷ front) rest a s =
-    let h = both (p c) (list_all p front) a in
+    let h = and_parts (p c) (list_all p front) a in
     run-yes p c (front ++ rest) h.0 ∙ ap (λ l. c ∷ l) (run-exact p front rest h.1 s)
 
 pub behind-exact : (p : ℕ → Bool) (front rest : List ℕ) → list_all p front ≡ true → Stops p rest → behind p (front ++ rest) ≡ rest
 behind-exact p [] rest a s = stops-behind p rest s
 behind-exact p (c ∷ front) rest a s =
-    let h = both (p c) (list_all p front) a in
+    let h = and_parts (p c) (list_all p front) a in
     behind-yes p c (front ++ rest) h.0 ∙ behind-exact p front rest h.1 s

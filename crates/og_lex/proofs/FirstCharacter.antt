@@ -3,7 +3,7 @@ use Rattle.std.proofs.Common.{◌≡◌, ◌≢◌, inl, inr, ℕ, ◌<◌, Bool
 use Rattle.std.specs.Prelude.{◌==◌, ◌&&◌, ◌||◌, nat_le}
 use Rattle.std.specs.List.{list_all}
 use Rattle.std.specs.Char.{is_ascii_alphabetic}
-use Rattle.std.proofs.lemmas.Bool.{ltb-true, leb-true, eqb-true}
+use Rattle.std.proofs.lemmas.Bool.{ltb-true, leb-true, eqb-true, cases_Bool, or_cases, and_parts, and_from}
 use Rattle.unicode_ident.specs.Ident.{is_xid_start, is_xid_continue}
 use Rattle.unicode_ident.proofs.IdentLemmas.{is_xid_start-ascii, is_xid_start-is_xid_continue}
 use Rattle.og_lex.specs.declared.token.Kind.{Kind}
@@ -15,7 +15,6 @@ use Rattle.og_lex.specs.declared.token.Mark.TheVariants as marks
 use Rattle.og_lex.specs.Characters.{is_blank, is_digit, is_ascii_char}
 use Rattle.og_lex.specs.Tables.{word_text, mark_text}
 use Rattle.og_lex.specs.Spelling.{Spells, is_name}
-use Rattle.og_lex.proofs.Tools.{either_way, either, both, both-yes}
 use Rattle.og_lex.proofs.Numbers.{digit-range}
 
 pub data Sort : Type 0 where
@@ -60,9 +59,9 @@ sort_of-ascii c h = ap (λ b. sort_from (is_blank c) b (c == 95) (is_digit c) (c
 
 pub blank-each : (P : ℕ → Type 0) (c : ℕ) → is_blank c ≡ true → P 32 → P 9 → P 10 → P 13 → P c
 blank-each P c e p32 p9 p10 p13 =
-    elim (either ((c == 32) || (c == 9) || (c == 10)) (c == 13) e) [
-      | inl three ↦ elim (either ((c == 32) || (c == 9)) (c == 10) three) [
-        | inl two ↦ elim (either (c == 32) (c == 9) two) [
+    elim (or_cases ((c == 32) || (c == 9) || (c == 10)) (c == 13) e) [
+      | inl three ↦ elim (or_cases ((c == 32) || (c == 9)) (c == 10) three) [
+        | inl two ↦ elim (or_cases (c == 32) (c == 9) two) [
           | inl at ↦ subst P (sym (eqb-true c 32 at)) p32
           | inr at ↦ subst P (sym (eqb-true c 9 at)) p9
         ]
@@ -76,7 +75,7 @@ blank-ascii : (c : ℕ) → is_blank c ≡ true → (c < 128) × (is_ascii_alpha
 blank-ascii c e = blank-each (λ x. (x < 128) × (is_ascii_alphabetic x ≡ false)) c e (lit< tt, refl) (lit< tt, refl) (lit< tt, refl) (lit< tt, refl)
 
 no-blank : (c : ℕ) → (is_blank c ≡ true → ⊥) → is_blank c ≡ false
-no-blank c h = elim (either_way (is_blank c)) [ inl b ↦ absurd (h b) | inr other ↦ other ]
+no-blank c h = elim (cases_Bool (is_blank c)) [ inl b ↦ absurd (h b) | inr other ↦ other ]
 
 pub sort_of-starts : (c : ℕ) → is_xid_start c ≡ true → sort_of c ≡ letter
 unfolding sort_of
@@ -88,14 +87,14 @@ pub sort_of-digit : (c : ℕ) → is_digit c ≡ true → sort_of c ≡ digit
 sort_of-digit c e =
     let r = digit-range c e in
     let other : is_blank c ≡ false = no-blank c (λ b. let n = blank-each (λ x. is_digit x ≡ false) c b refl refl refl refl in cc) in
-    let letters : is_ascii_alphabetic c ≡ false = elim (either_way (is_ascii_alphabetic c)) [
-      | inl a ↦ elim (either (nat_le 65 c && nat_le c 90) (nat_le 97 c && nat_le c 122) a) [
-        | inl b ↦ absurd (omega (arith, leb-true 65 c (both (nat_le 65 c) (nat_le c 90) b).0))
-        | inr b ↦ absurd (omega (arith, leb-true 97 c (both (nat_le 97 c) (nat_le c 122) b).0))
+    let letters : is_ascii_alphabetic c ≡ false = elim (cases_Bool (is_ascii_alphabetic c)) [
+      | inl a ↦ elim (or_cases (nat_le 65 c && nat_le c 90) (nat_le 97 c && nat_le c 122) a) [
+        | inl b ↦ absurd (omega (arith, leb-true 65 c (and_parts (nat_le 65 c) (nat_le c 90) b).0))
+        | inr b ↦ absurd (omega (arith, leb-true 97 c (and_parts (nat_le 97 c) (nat_le c 122) b).0))
       ]
       | inr n ↦ n
     ] in
-    let under : (c == 95) ≡ false = elim (either_way (c == 95)) [ inl a ↦ absurd (omega (arith, eqb-true c 95 a)) | inr n ↦ n ] in
+    let under : (c == 95) ≡ false = elim (cases_Bool (c == 95)) [ inl a ↦ absurd (omega (arith, eqb-true c 95 a)) | inr n ↦ n ] in
     let small : c < 128 = omega arith in
     sort_of-ascii c small
     ∙ ap (λ b. sort_from b (is_ascii_alphabetic c) (c == 95) (is_digit c) (c == 34)) other
@@ -186,7 +185,7 @@ mark-sorts marks.Then = refl
 mark-sorts marks.Beside = refl
 
 letter-starts : (c : ℕ) → (is_ascii_char c && is_ascii_alphabetic c) ≡ true → is_xid_start c ≡ true
-letter-starts c e = let h = both (is_ascii_char c) (is_ascii_alphabetic c) e in is_xid_start-ascii c (ltb-true c 128 h.0) ∙ h.1
+letter-starts c e = let h = and_parts (is_ascii_char c) (is_ascii_alphabetic c) e in is_xid_start-ascii c (ltb-true c 128 h.0) ∙ h.1
 
 symbol-true : (s : Sort) → is_symbol s ≡ true → s ≡ symbol
 symbol-true space e = cc
@@ -202,7 +201,7 @@ none-marked e = cc
 
 mark-sort : (c : ℕ) (cs : List ℕ) → marks_sort (c ∷ cs) ≡ true → sort_of c ≡ symbol
 unfolding marks_sort
-mark-sort c cs e = let h = both (is_ascii_char c) (is_symbol (ascii_sort c)) e in sort_of-ascii c (ltb-true c 128 h.0) ∙ symbol-true (ascii_sort c) h.1
+mark-sort c cs e = let h = and_parts (is_ascii_char c) (is_symbol (ascii_sort c)) e in sort_of-ascii c (ltb-true c 128 h.0) ∙ symbol-true (ascii_sort c) h.1
 
 first : (c d : ℕ) (cs ds : List ℕ) → c ∷ cs ≡ d ∷ ds → c ≡ d
 first c d cs ds e = cc
@@ -210,28 +209,28 @@ first c d cs ds e = cc
 letters-continue : (cs : List ℕ) → list_all (λ x. is_ascii_char x && is_ascii_alphabetic x) cs ≡ true → list_all is_xid_continue cs ≡ true
 letters-continue [] e = refl
 letters-continue (c ∷ cs) e =
-    let h = both (is_ascii_char c && is_ascii_alphabetic c) (list_all (λ x. is_ascii_char x && is_ascii_alphabetic x) cs) e in
-    both-yes (is_xid_continue c) (list_all is_xid_continue cs) (is_xid_start-is_xid_continue c (letter-starts c h.0)) (letters-continue cs h.1)
+    let h = and_parts (is_ascii_char c && is_ascii_alphabetic c) (list_all (λ x. is_ascii_char x && is_ascii_alphabetic x) cs) e in
+    and_from (is_xid_continue c) (list_all is_xid_continue cs) (is_xid_start-is_xid_continue c (letter-starts c h.0)) (letters-continue cs h.1)
 
 letters-name : (cs : List ℕ) → names cs ≡ true → is_name cs ≡ true
 unfolding names
 letters-name [] e = e
 letters-name (c ∷ cs) e =
-    let h = both (is_ascii_char c && is_ascii_alphabetic c) (list_all (λ x. is_ascii_char x && is_ascii_alphabetic x) cs) e in
-    both-yes (is_xid_start c) (list_all is_xid_continue cs) (letter-starts c h.0) (letters-continue cs h.1)
+    let h = and_parts (is_ascii_char c && is_ascii_alphabetic c) (list_all (λ x. is_ascii_char x && is_ascii_alphabetic x) cs) e in
+    and_from (is_xid_start c) (list_all is_xid_continue cs) (letter-starts c h.0) (letters-continue cs h.1)
 
 pub word-is_name : (w : Word) → is_name (word_text w) ≡ true
 word-is_name w = letters-name (word_text w) (word-names w)
 
 -- the first character of what spells a kind has the kind's sort
 pub spelled-sort : (kind : Kind) (c : ℕ) (cs : List ℕ) → Spells kind (c ∷ cs) → sort_of c ≡ kind_sort kind
-spelled-sort kinds.Name c cs s = sort_of-starts c (both (is_xid_start c) (list_all is_xid_continue cs) s.0).0
+spelled-sort kinds.Name c cs s = sort_of-starts c (and_parts (is_xid_start c) (list_all is_xid_continue cs) s.0).0
 spelled-sort kinds.Under c cs s = ap sort_of (first c 95 cs s.0 s.1) ∙ sort_of-ascii 95 (lit< tt)
-spelled-sort (kinds.Number n) c cs s = sort_of-digit c (both (is_digit c) (list_all is_digit cs) s.1).0
+spelled-sort (kinds.Number n) c cs s = sort_of-digit c (and_parts (is_digit c) (list_all is_digit cs) s.1).0
 spelled-sort kinds.Text c cs s = ap sort_of (first c 34 cs (s.0 ++ 34 ∷ []) s.1) ∙ sort_of-ascii 34 (lit< tt)
 spelled-sort (kinds.Word w) c cs s =
     let n : is_name (c ∷ cs) ≡ true = ap is_name s ∙ word-is_name w in
-    sort_of-starts c (both (is_xid_start c) (list_all is_xid_continue cs) n).0
+    sort_of-starts c (and_parts (is_xid_start c) (list_all is_xid_continue cs) n).0
 spelled-sort (kinds.Mark m) c cs s = mark-sort c cs (ap marks_sort s ∙ mark-sorts m)
 spelled-sort kinds.Separator c cs s = ap sort_of (first c 58 cs (s.0 ++ 58 ∷ []) s.1) ∙ sort_of-ascii 58 (lit< tt)
 

@@ -1,17 +1,17 @@
 -- What is read at a place stands there, and where nothing is read nothing stands.
 use Rattle.std.proofs.Common.{◌≡◌, ◌≢◌, inl, inr, ℕ, true, false, List, [], ◌∷◌, ◌++◌, refl, sym, ap, ◌∙◌, subst}
 use Rattle.std.specs.Prelude.{Option, Some, None, Result, Ok, Err, codes}
+use Rattle.std.proofs.lemmas.Bool.{cond_both}
 use Rattle.og_lex.specs.declared.token.Kind.{Kind}
 use Rattle.og_lex.specs.declared.fault.LexFault.{LexFault}
 use Rattle.og_lex.specs.Characters.{is_blank, is_in_comment, run, behind}
-use Rattle.og_lex.specs.Reading.{Read, strip, token_at, with_kind, or_comment, piece_at}
+use Rattle.og_lex.specs.LeftToRight.{Read, strip, token_at, with_kind, or_comment, piece_at}
 use Rattle.og_lex.specs.Spelling.{Stands, NothingStands, FaultAt, Begins}
-use Rattle.og_lex.proofs.Tools.{by_test}
-use Rattle.og_lex.proofs.Runs.{run-behind, behind-stops}
+use Rattle.og_lex.proofs.CharacterRuns.{run-behind, behind-stops}
 use Rattle.og_lex.proofs.Numbers.{run-all}
-use Rattle.og_lex.proofs.Strips.{strip-is, strip-append}
-use Rattle.og_lex.proofs.Sorts.{spelled-some}
-use Rattle.og_lex.proofs.Readings.{Tells, token-told}
+use Rattle.og_lex.proofs.Strip.{strip-is, strip-append}
+use Rattle.og_lex.proofs.FirstCharacter.{spelled-some}
+use Rattle.og_lex.proofs.TokenAt.{Tells, token-told}
 
 -- Something stands at the front of the characters, and rest follows it.
 pub record IsFound (what : Option Kind) (cs rest : List ℕ) : Type 0 where
@@ -23,9 +23,6 @@ pub record IsFound (what : Option Kind) (cs rest : List ℕ) : Type 0 where
 abbrev pub Shows : ℕ → List ℕ → Read → Type 0
 Shows place cs (Ok (what, rest)) = IsFound what cs rest
 Shows place cs (Err fault) = FaultAt place cs fault
-
-head-same : (c d : ℕ) (cs ds : List ℕ) → c ∷ cs ≡ d ∷ ds → c ≡ d
-head-same c d cs ds e = cc
 
 blank-shown : (c : ℕ) (cs : List ℕ) → is_blank c ≡ true → IsFound None (c ∷ cs) cs
 blank-shown c cs b = record { front = c ∷ []; whole = refl; some = λ e. cc; stands = inl (c, refl, b) }
@@ -47,7 +44,7 @@ no-comment cs none after e = let s = strip-append (codes "//") after in let t = 
 nothing-stands : (c : ℕ) (cs : List ℕ) → is_blank c ≡ false → strip (codes "//") (c ∷ cs) ≡ None → ((kind : Kind) (front rest : List ℕ) → front ++ rest ≡ c ∷ cs → Begins kind front rest → ⊥) → NothingStands (c ∷ cs)
 nothing-stands c cs b n none None front rest e (inl blank) =
     let one : (blank.0 ∷ []) ++ rest ≡ c ∷ cs = ap (λ l. l ++ rest) (sym blank.1) ∙ e in
-    let at : blank.0 ≡ c = head-same blank.0 c rest cs one in
+    let at : blank.0 ≡ c = cc in
     let f = ap is_blank at in let g = blank.2 in cc
 nothing-stands c cs b n none None front rest e (inr comment) =
     no-comment (c ∷ cs) n (comment.0 ++ rest) (sym e ∙ ap (λ l. l ++ rest) comment.1)
@@ -69,7 +66,7 @@ commented place c cs b None e = token-shown place c cs b e (token_at place (c �
 pub piece-shown : (place c : ℕ) (cs : List ℕ) → Shows place (c ∷ cs) (piece_at place (c ∷ cs))
 unfolding piece_at
 piece-shown place c cs =
-    by_test (Shows place (c ∷ cs)) (is_blank c) (Ok (None, cs)) (or_comment (strip (codes "//") (c ∷ cs)) (with_kind (token_at place (c ∷ cs))))
+    cond_both (is_blank c) (Ok (None, cs)) (or_comment (strip (codes "//") (c ∷ cs)) (with_kind (token_at place (c ∷ cs)))) (Shows place (c ∷ cs))
     (λ b. blank-shown c cs b)
     (λ b. commented place c cs b (strip (codes "//") (c ∷ cs)) refl)
 
@@ -80,6 +77,3 @@ piece-none place rest what e = cc
 pub piece-found : (place : ℕ) (cs rest : List ℕ) (what : Option Kind) → piece_at place cs ≡ Ok (what, rest) → IsFound what cs rest
 piece-found place [] rest what e = absurd (piece-none place rest what e)
 piece-found place (c ∷ cs) rest what e = subst (Shows place (c ∷ cs)) e (piece-shown place c cs)
-
-pub piece-failed : (place c : ℕ) (cs : List ℕ) (fault : LexFault) → piece_at place (c ∷ cs) ≡ Err fault → FaultAt place (c ∷ cs) fault
-piece-failed place c cs fault e = subst (Shows place (c ∷ cs)) e (piece-shown place c cs)
