@@ -27,31 +27,31 @@ behind-stops p (c ∷ cs) =
     ]
 
 -- a front that passes is no longer than the run
-pub front-le-run : (p : ℕ → Bool) (front rest : List ℕ) → list_all p front ≡ true → length front ≤ length (run p (front ++ rest))
-front-le-run p [] rest a = omega arith
-front-le-run p (c ∷ front) rest a =
+pub front_le_run : (p : ℕ → Bool) (front rest : List ℕ) → list_all p front ≡ true → length front ≤ length (run p (front ++ rest))
+front_le_run p [] rest a = omega arith
+front_le_run p (c ∷ front) rest a =
     let h = and_parts (p c) (list_all p front) a in
-    let more = front-le-run p front rest h.1 in
+    let more = front_le_run p front rest h.1 in
     let l : length (run p (c ∷ (front ++ rest))) ≡ length (c ∷ run p (front ++ rest)) = ap length (run-yes p c (front ++ rest) h.0) in
     omega arith
 
-stops-run : (p : ℕ → Bool) (rest : List ℕ) → Stops p rest → run p rest ≡ []
-stops-run p [] s = refl
-stops-run p (c ∷ cs) s = run-no p c cs s
+stops_run : (p : ℕ → Bool) (rest : List ℕ) → Stops p rest → run p rest ≡ []
+stops_run p [] s = refl
+stops_run p (c ∷ cs) s = run-no p c cs s
 
-stops-behind : (p : ℕ → Bool) (rest : List ℕ) → Stops p rest → behind p rest ≡ rest
-stops-behind p [] s = refl
-stops-behind p (c ∷ cs) s = behind-no p c cs s
+stops_behind : (p : ℕ → Bool) (rest : List ℕ) → Stops p rest → behind p rest ≡ rest
+stops_behind p [] s = refl
+stops_behind p (c ∷ cs) s = behind-no p c cs s
 
 -- a front that passes and is followed by no character that does is the run
 pub run-exact : (p : ℕ → Bool) (front rest : List ℕ) → list_all p front ≡ true → Stops p rest → run p (front ++ rest) ≡ front
-run-exact p [] rest a s = stops-run p rest s
+run-exact p [] rest a s = stops_run p rest s
 run-exact p (c ∷ front) rest a s =
     let h = and_parts (p c) (list_all p front) a in
     run-yes p c (front ++ rest) h.0 ∙ ap (λ l. c ∷ l) (run-exact p front rest h.1 s)
 
 pub behind-exact : (p : ℕ → Bool) (front rest : List ℕ) → list_all p front ≡ true → Stops p rest → behind p (front ++ rest) ≡ rest
-behind-exact p [] rest a s = stops-behind p rest s
+behind-exact p [] rest a s = stops_behind p rest s
 behind-exact p (c ∷ front) rest a s =
     let h = and_parts (p c) (list_all p front) a in
     behind-yes p c (front ++ rest) h.0 ∙ behind-exact p front rest h.1 s

@@ -15,7 +15,7 @@ use Rattle.og_lex.specs.declared.token.Mark.TheVariants as marks
 use Rattle.og_lex.specs.Characters.{is_blank, is_digit, is_ascii_char}
 use Rattle.og_lex.specs.Tables.{word_text, mark_text}
 use Rattle.og_lex.specs.Spelling.{Spells, is_name}
-use Rattle.og_lex.proofs.Numbers.{digit-range}
+use Rattle.og_lex.proofs.Numbers.{digit_range}
 
 pub data Sort : Type 0 where
   space : Sort
@@ -57,8 +57,8 @@ pub sort_of-ascii : (c : ℕ) → c < 128 → sort_of c ≡ ascii_sort c
 unfolding sort_of
 sort_of-ascii c h = ap (λ b. sort_from (is_blank c) b (c == 95) (is_digit c) (c == 34)) (is_xid_start-ascii c h)
 
-pub blank-each : (P : ℕ → Type 0) (c : ℕ) → is_blank c ≡ true → P 32 → P 9 → P 10 → P 13 → P c
-blank-each P c e p32 p9 p10 p13 =
+pub blank_each : (P : ℕ → Type 0) (c : ℕ) → is_blank c ≡ true → P 32 → P 9 → P 10 → P 13 → P c
+blank_each P c e p32 p9 p10 p13 =
     elim (or_cases ((c == 32) || (c == 9) || (c == 10)) (c == 13) e) [
       | inl three ↦ elim (or_cases ((c == 32) || (c == 9)) (c == 10) three) [
         | inl two ↦ elim (or_cases (c == 32) (c == 9) two) [
@@ -71,22 +71,22 @@ blank-each P c e p32 p9 p10 p13 =
     ]
 
 -- what begins a name is no blank
-blank-ascii : (c : ℕ) → is_blank c ≡ true → (c < 128) × (is_ascii_alphabetic c ≡ false)
-blank-ascii c e = blank-each (λ x. (x < 128) × (is_ascii_alphabetic x ≡ false)) c e (lit< tt, refl) (lit< tt, refl) (lit< tt, refl) (lit< tt, refl)
+blank_ascii : (c : ℕ) → is_blank c ≡ true → (c < 128) × (is_ascii_alphabetic c ≡ false)
+blank_ascii c e = blank_each (λ x. (x < 128) × (is_ascii_alphabetic x ≡ false)) c e (lit< tt, refl) (lit< tt, refl) (lit< tt, refl) (lit< tt, refl)
 
-no-blank : (c : ℕ) → (is_blank c ≡ true → ⊥) → is_blank c ≡ false
-no-blank c h = elim (cases_Bool (is_blank c)) [ inl b ↦ absurd (h b) | inr other ↦ other ]
+no_blank : (c : ℕ) → (is_blank c ≡ true → ⊥) → is_blank c ≡ false
+no_blank c h = elim (cases_Bool (is_blank c)) [ inl b ↦ absurd (h b) | inr other ↦ other ]
 
 pub sort_of-starts : (c : ℕ) → is_xid_start c ≡ true → sort_of c ≡ letter
 unfolding sort_of
 sort_of-starts c e =
-    let other : is_blank c ≡ false = no-blank c (λ b. let h = blank-ascii c b in let n = is_xid_start-ascii c h.0 in let m = h.1 in cc) in
+    let other : is_blank c ≡ false = no_blank c (λ b. let h = blank_ascii c b in let n = is_xid_start-ascii c h.0 in let m = h.1 in cc) in
     ap (λ b. sort_from b (is_xid_start c) (c == 95) (is_digit c) (c == 34)) other ∙ ap (λ b. sort_from false b (c == 95) (is_digit c) (c == 34)) e
 
 pub sort_of-digit : (c : ℕ) → is_digit c ≡ true → sort_of c ≡ digit
 sort_of-digit c e =
-    let r = digit-range c e in
-    let other : is_blank c ≡ false = no-blank c (λ b. let n = blank-each (λ x. is_digit x ≡ false) c b refl refl refl refl in cc) in
+    let r = digit_range c e in
+    let other : is_blank c ≡ false = no_blank c (λ b. let n = blank_each (λ x. is_digit x ≡ false) c b refl refl refl refl in cc) in
     let letters : is_ascii_alphabetic c ≡ false = elim (cases_Bool (is_ascii_alphabetic c)) [
       | inl a ↦ elim (or_cases (nat_le 65 c && nat_le c 90) (nat_le 97 c && nat_le c 122) a) [
         | inl b ↦ absurd (omega (arith, leb-true 65 c (and_parts (nat_le 65 c) (nat_le c 90) b).0))
@@ -111,134 +111,134 @@ names : List ℕ → Bool
 names [] = false
 names (c ∷ cs) = is_ascii_char c && is_ascii_alphabetic c && list_all (λ x. is_ascii_char x && is_ascii_alphabetic x) cs
 
-word-names : (w : Word) → names (word_text w) ≡ true
+word_names : (w : Word) → names (word_text w) ≡ true
 unfolding word_text names
-word-names words.«Type» = refl
-word-names words.Fn = refl
-word-names words.Game = refl
-word-names words.Block = refl
-word-names words.Inputs = refl
-word-names words.Feedback = refl
-word-names words.Operation = refl
-word-names words.Outputs = refl
-word-names words.Returns = refl
-word-names words.DependentDecision = refl
-word-names words.Nature = refl
-word-names words.ForwardFunction = refl
-word-names words.BackwardFunction = refl
-word-names words.Identity = refl
-word-names words.Library = refl
-word-names words.If = refl
-word-names words.Then = refl
-word-names words.Elif = refl
-word-names words.Else = refl
-word-names words.End = refl
-word-names words.Table = refl
-word-names words.And = refl
-word-names words.Or = refl
-word-names words.Not = refl
-word-names words.True = refl
-word-names words.False = refl
-word-names words.Bool = refl
-word-names words.Number = refl
-word-names words.Agent = refl
-word-names words.Ratio = refl
-word-names words.Min = refl
-word-names words.Max = refl
-word-names words.Clamp = refl
-word-names words.Strategy = refl
-word-names words.Among = refl
-word-names words.Branch = refl
-word-names words.Version = refl
+word_names words.«Type» = refl
+word_names words.Fn = refl
+word_names words.Game = refl
+word_names words.Block = refl
+word_names words.Inputs = refl
+word_names words.Feedback = refl
+word_names words.Operation = refl
+word_names words.Outputs = refl
+word_names words.Returns = refl
+word_names words.DependentDecision = refl
+word_names words.Nature = refl
+word_names words.ForwardFunction = refl
+word_names words.BackwardFunction = refl
+word_names words.Identity = refl
+word_names words.Library = refl
+word_names words.If = refl
+word_names words.Then = refl
+word_names words.Elif = refl
+word_names words.Else = refl
+word_names words.End = refl
+word_names words.Table = refl
+word_names words.And = refl
+word_names words.Or = refl
+word_names words.Not = refl
+word_names words.True = refl
+word_names words.False = refl
+word_names words.Bool = refl
+word_names words.Number = refl
+word_names words.Agent = refl
+word_names words.Ratio = refl
+word_names words.Min = refl
+word_names words.Max = refl
+word_names words.Clamp = refl
+word_names words.Strategy = refl
+word_names words.Among = refl
+word_names words.Branch = refl
+word_names words.Version = refl
 
 -- the sort of the first character, and that it is ASCII
 marks_sort : List ℕ → Bool
 marks_sort [] = false
 marks_sort (c ∷ cs) = is_ascii_char c && is_symbol (ascii_sort c)
 
-mark-sorts : (m : Mark) → marks_sort (mark_text m) ≡ true
+mark_sorts : (m : Mark) → marks_sort (mark_text m) ≡ true
 unfolding mark_text marks_sort
-mark-sorts marks.LeftBrace = refl
-mark-sorts marks.RightBrace = refl
-mark-sorts marks.LeftParen = refl
-mark-sorts marks.RightParen = refl
-mark-sorts marks.LeftBracket = refl
-mark-sorts marks.RightBracket = refl
-mark-sorts marks.Comma = refl
-mark-sorts marks.Semicolon = refl
-mark-sorts marks.Colon = refl
-mark-sorts marks.Dot = refl
-mark-sorts marks.DotDot = refl
-mark-sorts marks.Arrow = refl
-mark-sorts marks.Assign = refl
-mark-sorts marks.Equal = refl
-mark-sorts marks.Differs = refl
-mark-sorts marks.Less = refl
-mark-sorts marks.AtMost = refl
-mark-sorts marks.Greater = refl
-mark-sorts marks.AtLeast = refl
-mark-sorts marks.Plus = refl
-mark-sorts marks.Minus = refl
-mark-sorts marks.Star = refl
-mark-sorts marks.Slash = refl
-mark-sorts marks.Then = refl
-mark-sorts marks.Beside = refl
+mark_sorts marks.LeftBrace = refl
+mark_sorts marks.RightBrace = refl
+mark_sorts marks.LeftParen = refl
+mark_sorts marks.RightParen = refl
+mark_sorts marks.LeftBracket = refl
+mark_sorts marks.RightBracket = refl
+mark_sorts marks.Comma = refl
+mark_sorts marks.Semicolon = refl
+mark_sorts marks.Colon = refl
+mark_sorts marks.Dot = refl
+mark_sorts marks.DotDot = refl
+mark_sorts marks.Arrow = refl
+mark_sorts marks.Assign = refl
+mark_sorts marks.Equal = refl
+mark_sorts marks.Differs = refl
+mark_sorts marks.Less = refl
+mark_sorts marks.AtMost = refl
+mark_sorts marks.Greater = refl
+mark_sorts marks.AtLeast = refl
+mark_sorts marks.Plus = refl
+mark_sorts marks.Minus = refl
+mark_sorts marks.Star = refl
+mark_sorts marks.Slash = refl
+mark_sorts marks.Then = refl
+mark_sorts marks.Beside = refl
 
-letter-starts : (c : ℕ) → (is_ascii_char c && is_ascii_alphabetic c) ≡ true → is_xid_start c ≡ true
-letter-starts c e = let h = and_parts (is_ascii_char c) (is_ascii_alphabetic c) e in is_xid_start-ascii c (ltb-true c 128 h.0) ∙ h.1
+letter_starts : (c : ℕ) → (is_ascii_char c && is_ascii_alphabetic c) ≡ true → is_xid_start c ≡ true
+letter_starts c e = let h = and_parts (is_ascii_char c) (is_ascii_alphabetic c) e in is_xid_start-ascii c (ltb-true c 128 h.0) ∙ h.1
 
-symbol-true : (s : Sort) → is_symbol s ≡ true → s ≡ symbol
-symbol-true space e = cc
-symbol-true letter e = cc
-symbol-true line e = cc
-symbol-true digit e = cc
-symbol-true quote e = cc
-symbol-true symbol e = refl
+symbol_true : (s : Sort) → is_symbol s ≡ true → s ≡ symbol
+symbol_true space e = cc
+symbol_true letter e = cc
+symbol_true line e = cc
+symbol_true digit e = cc
+symbol_true quote e = cc
+symbol_true symbol e = refl
 
-none-marked : marks_sort [] ≡ true → ⊥
+none_marked : marks_sort [] ≡ true → ⊥
 unfolding marks_sort
-none-marked e = cc
+none_marked e = cc
 
-mark-sort : (c : ℕ) (cs : List ℕ) → marks_sort (c ∷ cs) ≡ true → sort_of c ≡ symbol
+mark_sort : (c : ℕ) (cs : List ℕ) → marks_sort (c ∷ cs) ≡ true → sort_of c ≡ symbol
 unfolding marks_sort
-mark-sort c cs e = let h = and_parts (is_ascii_char c) (is_symbol (ascii_sort c)) e in sort_of-ascii c (ltb-true c 128 h.0) ∙ symbol-true (ascii_sort c) h.1
+mark_sort c cs e = let h = and_parts (is_ascii_char c) (is_symbol (ascii_sort c)) e in sort_of-ascii c (ltb-true c 128 h.0) ∙ symbol_true (ascii_sort c) h.1
 
 first : (c d : ℕ) (cs ds : List ℕ) → c ∷ cs ≡ d ∷ ds → c ≡ d
 first c d cs ds e = cc
 
-letters-continue : (cs : List ℕ) → list_all (λ x. is_ascii_char x && is_ascii_alphabetic x) cs ≡ true → list_all is_xid_continue cs ≡ true
-letters-continue [] e = refl
-letters-continue (c ∷ cs) e =
+letters_continue : (cs : List ℕ) → list_all (λ x. is_ascii_char x && is_ascii_alphabetic x) cs ≡ true → list_all is_xid_continue cs ≡ true
+letters_continue [] e = refl
+letters_continue (c ∷ cs) e =
     let h = and_parts (is_ascii_char c && is_ascii_alphabetic c) (list_all (λ x. is_ascii_char x && is_ascii_alphabetic x) cs) e in
-    and_from (is_xid_continue c) (list_all is_xid_continue cs) (is_xid_start-is_xid_continue c (letter-starts c h.0)) (letters-continue cs h.1)
+    and_from (is_xid_continue c) (list_all is_xid_continue cs) (is_xid_start-is_xid_continue c (letter_starts c h.0)) (letters_continue cs h.1)
 
-letters-name : (cs : List ℕ) → names cs ≡ true → is_name cs ≡ true
+letters_name : (cs : List ℕ) → names cs ≡ true → is_name cs ≡ true
 unfolding names
-letters-name [] e = e
-letters-name (c ∷ cs) e =
+letters_name [] e = e
+letters_name (c ∷ cs) e =
     let h = and_parts (is_ascii_char c && is_ascii_alphabetic c) (list_all (λ x. is_ascii_char x && is_ascii_alphabetic x) cs) e in
-    and_from (is_xid_start c) (list_all is_xid_continue cs) (letter-starts c h.0) (letters-continue cs h.1)
+    and_from (is_xid_start c) (list_all is_xid_continue cs) (letter_starts c h.0) (letters_continue cs h.1)
 
-pub word-is_name : (w : Word) → is_name (word_text w) ≡ true
-word-is_name w = letters-name (word_text w) (word-names w)
+pub word_is_name : (w : Word) → is_name (word_text w) ≡ true
+word_is_name w = letters_name (word_text w) (word_names w)
 
 -- the first character of what spells a kind has the kind's sort
-pub spelled-sort : (kind : Kind) (c : ℕ) (cs : List ℕ) → Spells kind (c ∷ cs) → sort_of c ≡ kind_sort kind
-spelled-sort kinds.Name c cs s = sort_of-starts c (and_parts (is_xid_start c) (list_all is_xid_continue cs) s.0).0
-spelled-sort kinds.Under c cs s = ap sort_of (first c 95 cs s.0 s.1) ∙ sort_of-ascii 95 (lit< tt)
-spelled-sort (kinds.Number n) c cs s = sort_of-digit c (and_parts (is_digit c) (list_all is_digit cs) s.1).0
-spelled-sort kinds.Text c cs s = ap sort_of (first c 34 cs (s.0 ++ 34 ∷ []) s.1) ∙ sort_of-ascii 34 (lit< tt)
-spelled-sort (kinds.Word w) c cs s =
-    let n : is_name (c ∷ cs) ≡ true = ap is_name s ∙ word-is_name w in
+pub spelled_sort : (kind : Kind) (c : ℕ) (cs : List ℕ) → Spells kind (c ∷ cs) → sort_of c ≡ kind_sort kind
+spelled_sort kinds.Name c cs s = sort_of-starts c (and_parts (is_xid_start c) (list_all is_xid_continue cs) s.0).0
+spelled_sort kinds.Under c cs s = ap sort_of (first c 95 cs s.0 s.1) ∙ sort_of-ascii 95 (lit< tt)
+spelled_sort (kinds.Number n) c cs s = sort_of-digit c (and_parts (is_digit c) (list_all is_digit cs) s.1).0
+spelled_sort kinds.Text c cs s = ap sort_of (first c 34 cs (s.0 ++ 34 ∷ []) s.1) ∙ sort_of-ascii 34 (lit< tt)
+spelled_sort (kinds.Word w) c cs s =
+    let n : is_name (c ∷ cs) ≡ true = ap is_name s ∙ word_is_name w in
     sort_of-starts c (and_parts (is_xid_start c) (list_all is_xid_continue cs) n).0
-spelled-sort (kinds.Mark m) c cs s = mark-sort c cs (ap marks_sort s ∙ mark-sorts m)
-spelled-sort kinds.Separator c cs s = ap sort_of (first c 58 cs (s.0 ++ 58 ∷ []) s.1) ∙ sort_of-ascii 58 (lit< tt)
+spelled_sort (kinds.Mark m) c cs s = mark_sort c cs (ap marks_sort s ∙ mark_sorts m)
+spelled_sort kinds.Separator c cs s = ap sort_of (first c 58 cs (s.0 ++ 58 ∷ []) s.1) ∙ sort_of-ascii 58 (lit< tt)
 
-pub spelled-some : (kind : Kind) (front : List ℕ) → Spells kind front → front ≢ []
-spelled-some kinds.Name front s e = let n = ap is_name e in let m = s.0 in cc
-spelled-some kinds.Under front s e = let h = s.1 in cc
-spelled-some (kinds.Number n) front s e = s.0 e
-spelled-some kinds.Text front s e = let h = s.1 in cc
-spelled-some (kinds.Word w) front s e = let n : is_name [] ≡ true = ap is_name (sym e ∙ s) ∙ word-is_name w in cc
-spelled-some (kinds.Mark m) front s e = none-marked (ap marks_sort (sym e ∙ s) ∙ mark-sorts m)
-spelled-some kinds.Separator front s e = let h = s.1 in cc
+pub spelled_some : (kind : Kind) (front : List ℕ) → Spells kind front → front ≢ []
+spelled_some kinds.Name front s e = let n = ap is_name e in let m = s.0 in cc
+spelled_some kinds.Under front s e = let h = s.1 in cc
+spelled_some (kinds.Number n) front s e = s.0 e
+spelled_some kinds.Text front s e = let h = s.1 in cc
+spelled_some (kinds.Word w) front s e = let n : is_name [] ≡ true = ap is_name (sym e ∙ s) ∙ word_is_name w in cc
+spelled_some (kinds.Mark m) front s e = none_marked (ap marks_sort (sym e ∙ s) ∙ mark_sorts m)
+spelled_some kinds.Separator front s e = let h = s.1 in cc

@@ -10,7 +10,7 @@ use Rattle.og_lex.specs.declared.fault.LexFault.{LexFault}
 use Rattle.og_lex.specs.Characters.{byte_len}
 use Rattle.og_lex.specs.LeftToRight.{piece_at, with_token, go_on, scan, tokens, with_token_of}
 use Rattle.og_lex.proofs.ByteLen.{byte_len-chars, byte_len-append, length-le-byte_len, some_length}
-use Rattle.og_lex.proofs.PieceAt.{piece-found}
+use Rattle.og_lex.proofs.PieceAt.{piece_found}
 
 -- what was read before, and what is read after it
 abbrev pub with_tokens : List Token → Result (List Token) LexFault → Result (List Token) LexFault
@@ -57,18 +57,18 @@ scan_step room place [] some h = absurd (some refl)
 scan_step zero place (c ∷ cs) some h = absurd (omega arith)
 scan_step (suc n) place (c ∷ cs) some h = (n, refl, refl)
 
-some-chars : (text : List ℕ) → IsUtf8 text → text ≢ [] → chars text ≢ []
-some-chars text u some e = some (sym (encodes-chars text u) ∙ ap encode_utf8_all e)
+some_chars : (text : List ℕ) → IsUtf8 text → text ≢ [] → chars text ≢ []
+some_chars text u some e = some (sym (encodes-chars text u) ∙ ap encode_utf8_all e)
 
 pub read_fail : (text : List ℕ) (ts : List Token) (place : ℕ) (rest : List ℕ) (fault : LexFault) → IsRead text ts place rest → IsUtf8 rest → rest ≢ [] → piece_at place (chars rest) ≡ Err fault → tokens text ≡ Err fault
 read_fail text ts place rest fault h u some e =
-    let s = scan_step h.room place (chars rest) (some-chars rest u some) h.enough in
+    let s = scan_step h.room place (chars rest) (some_chars rest u some) h.enough in
     h.whole ∙ ap (with_tokens ts) (s.2 ∙ ap (go_on (scan s.0) place (chars rest)) e)
 
 -- the characters that follow a piece are fewer, and so are their bytes
 pub read_less : (place : ℕ) (rest after : List ℕ) (what : Option Kind) → IsUtf8 rest → IsUtf8 after → piece_at place (chars rest) ≡ Ok (what, chars after) → (length after < length rest) × (length (chars after) < length (chars rest))
 read_less place rest after what u v e =
-    let found = piece-found place (chars rest) (chars after) what e in
+    let found = piece_found place (chars rest) (chars after) what e in
     let n = some_length found.front found.some in
     let b = length-le-byte_len found.front in
     let w = ap byte_len found.whole ∙ byte_len-append found.front (chars after) in
@@ -79,7 +79,7 @@ read_less place rest after what u v e =
 pub read_step : (text : List ℕ) (ts : List Token) (place : ℕ) (rest after : List ℕ) (what : Option Kind) → IsRead text ts place rest → IsUtf8 rest → IsUtf8 after → rest ≢ [] → piece_at place (chars rest) ≡ Ok (what, chars after)
     → IsRead text (with_token_of ts what place (place + (length rest - length after))) (place + (length rest - length after)) after
 read_step text ts place rest after None h u v some e =
-    let s = scan_step h.room place (chars rest) (some-chars rest u some) h.enough in
+    let s = scan_step h.room place (chars rest) (some_chars rest u some) h.enough in
     let less = read_less place rest after None u v e in
     let end : place + (byte_len (chars rest) - byte_len (chars after)) ≡ place + (length rest - length after) = omega (arith, byte_len-chars rest u, byte_len-chars after v) in
     record {
@@ -89,7 +89,7 @@ read_step text ts place rest after None h u v some e =
       at = omega (arith, h.at);
     }
 read_step text ts place rest after (Some kind) h u v some e =
-    let s = scan_step h.room place (chars rest) (some-chars rest u some) h.enough in
+    let s = scan_step h.room place (chars rest) (some_chars rest u some) h.enough in
     let less = read_less place rest after (Some kind) u v e in
     let end : place + (byte_len (chars rest) - byte_len (chars after)) ≡ place + (length rest - length after) = omega (arith, byte_len-chars rest u, byte_len-chars after v) in
     let more : ℕ → Result (List Token) LexFault = λ m. with_token (record { kind = kind; start = place; end = m }) (scan s.0 m (chars after)) in

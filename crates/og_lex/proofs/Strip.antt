@@ -29,11 +29,11 @@ strip-append [] rest = refl
 strip-append (x ∷ front) rest = ap (λ b. cond b (strip front (front ++ rest)) None) (eq-eqb x x refl) ∙ strip-append front rest
 
 -- ASCII characters are their own bytes
-pub ascii-encodes : (front : List ℕ) → list_all is_ascii_char front ≡ true → encode_utf8_all front ≡ front
-ascii-encodes [] e = refl
-ascii-encodes (x ∷ front) e =
+pub ascii_encodes : (front : List ℕ) → list_all is_ascii_char front ≡ true → encode_utf8_all front ≡ front
+ascii_encodes [] e = refl
+ascii_encodes (x ∷ front) e =
     let h = and_parts (is_ascii_char x) (list_all is_ascii_char front) e in
-    ap (λ l. l ++ encode_utf8_all front) (encode_ascii x (ltb-true x 128 h.0)) ∙ ap (λ l. x ∷ l) (ascii-encodes front h.1)
+    ap (λ l. l ++ encode_utf8_all front) (encode_ascii x (ltb-true x 128 h.0)) ∙ ap (λ l. x ∷ l) (ascii_encodes front h.1)
 
 -- what follows an ASCII front of the bytes of characters is bytes of characters
 pub behind_ascii : (front cs bytes : List ℕ) → list_all is_ascii_char front ≡ true → encode_utf8_all cs ≡ front ++ bytes → (rest : List ℕ) × (cs ≡ front ++ rest) × (encode_utf8_all rest ≡ bytes)
@@ -51,7 +51,7 @@ IsStripped front text r = MatchOption r (strip front (chars text) ≡ None) (λ 
 none_stripped : (front text : List ℕ) → list_all is_ascii_char front ≡ true → IsUtf8 text → ((rest : List ℕ) → text ≢ front ++ rest) → (o : Option (List ℕ)) → strip front (chars text) ≡ o → o ≡ None
 none_stripped front text a u differs None e = refl
 none_stripped front text a u differs (Some rest) e =
-    absurd (differs (encode_utf8_all rest) (sym (encodes-chars text u) ∙ ap encode_utf8_all (strip-is front (chars text) rest e) ∙ encodes-append front rest ∙ ap (λ l. l ++ encode_utf8_all rest) (ascii-encodes front a)))
+    absurd (differs (encode_utf8_all rest) (sym (encodes-chars text u) ∙ ap encode_utf8_all (strip-is front (chars text) rest e) ∙ encodes-append front rest ∙ ap (λ l. l ++ encode_utf8_all rest) (ascii_encodes front a)))
 
 some_stripped : (front text rest : List ℕ) → list_all is_ascii_char front ≡ true → IsUtf8 text → text ≡ front ++ rest → IsUtf8 rest → strip front (chars text) ≡ Some (chars rest)
 some_stripped front text rest a u e v =

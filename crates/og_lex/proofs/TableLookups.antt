@@ -54,17 +54,17 @@ word_of-text words.Among = refl
 word_of-text words.Branch = refl
 word_of-text words.Version = refl
 
-among-text : (ws : List Word) (name : List ℕ) (w : Word) → word_among ws name ≡ Some w → name ≡ word_text w
-among-text [] name w e = cc
-among-text (v ∷ ws) name w e =
+among_text : (ws : List Word) (name : List ℕ) (w : Word) → word_among ws name ≡ Some w → name ≡ word_text w
+among_text [] name w e = cc
+among_text (v ∷ ws) name w e =
     elim (cond_parts (same (word_text v) name) (Some v) (word_among ws name) (Some w) e) [
       | inl h ↦ let at = same-true (word_text v) name h.0 in cc
-      | inr h ↦ among-text ws name w h.1
+      | inr h ↦ among_text ws name w h.1
     ]
 
 pub word_of-is : (name : List ℕ) (w : Word) → word_of name ≡ Some w → name ≡ word_text w
 unfolding word_of
-word_of-is name w e = among-text all_words name w e
+word_of-is name w e = among_text all_words name w e
 
 -- where each mark stands in the table
 place : (m : Mark) → (i : ℕ) × (slice_get all_marks i ≡ Some m)
@@ -100,9 +100,9 @@ descends : List Mark → Bool
 descends [] = true
 descends (m ∷ ms) = list_all (λ k. nat_le (length (mark_text k)) (length (mark_text m))) ms && descends ms
 
-marks-descend : descends all_marks ≡ true
+marks_descend : descends all_marks ≡ true
 unfolding all_marks mark_text descends
-marks-descend = refl
+marks_descend = refl
 
 -- the mark with the text
 pub named : List ℕ → Option Mark
@@ -136,17 +136,17 @@ named-text marks.Slash = refl
 named-text marks.Then = refl
 named-text marks.Beside = refl
 
-find-named : (ms : List Mark) (text : List ℕ) (m : Mark) → find (λ k. same (mark_text k) text) ms ≡ Some m → text ≡ mark_text m
-find-named [] text m e = cc
-find-named (k ∷ ms) text m e =
+find_named : (ms : List Mark) (text : List ℕ) (m : Mark) → find (λ k. same (mark_text k) text) ms ≡ Some m → text ≡ mark_text m
+find_named [] text m e = cc
+find_named (k ∷ ms) text m e =
     elim (cond_parts (same (mark_text k) text) (Some k) (find (λ x. same (mark_text x) text) ms) (Some m) e) [
       | inl h ↦ let at = same-true (mark_text k) text h.0 in cc
-      | inr h ↦ find-named ms text m h.1
+      | inr h ↦ find_named ms text m h.1
     ]
 
 pub named-is : (text : List ℕ) (m : Mark) → named text ≡ Some m → text ≡ mark_text m
 unfolding named
-named-is text m e = find-named all_marks text m e
+named-is text m e = find_named all_marks text m e
 
 short : (m : Mark) → nat_le (length (mark_text m)) 3 ≡ true
 unfolding mark_text
@@ -176,13 +176,13 @@ short marks.Slash = refl
 short marks.Then = refl
 short marks.Beside = refl
 
-pub mark-short : (m : Mark) → length (mark_text m) ≤ 3
-mark-short m = leb-true (length (mark_text m)) 3 (short m)
+pub mark_short : (m : Mark) → length (mark_text m) ≤ 3
+mark_short m = leb-true (length (mark_text m)) 3 (short m)
 
-all-at : (p : Mark → Bool) (ms : List Mark) (i : ℕ) (m : Mark) → list_all p ms ≡ true → slice_get ms i ≡ Some m → p m ≡ true
-all-at p [] i m a e = cc
-all-at p (k ∷ ms) zero m a e = let h = and_parts (p k) (list_all p ms) a in let at : k ≡ m = cc in subst (λ x. p x ≡ true) at h.0
-all-at p (k ∷ ms) (suc i) m a e = all-at p ms i m (and_parts (p k) (list_all p ms) a).1 e
+all_at : (p : Mark → Bool) (ms : List Mark) (i : ℕ) (m : Mark) → list_all p ms ≡ true → slice_get ms i ≡ Some m → p m ≡ true
+all_at p [] i m a e = cc
+all_at p (k ∷ ms) zero m a e = let h = and_parts (p k) (list_all p ms) a in let at : k ≡ m = cc in subst (λ x. p x ≡ true) at h.0
+all_at p (k ∷ ms) (suc i) m a e = all_at p ms i m (and_parts (p k) (list_all p ms) a).1 e
 
 -- the mark that is found begins the characters, and none that does is longer
 pub record IsLongest (m : Mark) (ms : List Mark) (cs rest : List ℕ) : Type 0 where
@@ -191,7 +191,7 @@ pub record IsLongest (m : Mark) (ms : List Mark) (cs rest : List ℕ) : Type 0 w
 
 no_longer : (v : Mark) (ms : List Mark) → list_all (λ k. nat_le (length (mark_text k)) (length (mark_text v))) ms ≡ true → (k : Mark) (i : ℕ) → slice_get (v ∷ ms) i ≡ Some k → length (mark_text k) ≤ length (mark_text v)
 no_longer v ms a k zero e = let at : v ≡ k = cc in subst (λ x. length (mark_text x) ≤ length (mark_text v)) at (omega arith)
-no_longer v ms a k (suc i) e = leb-true (length (mark_text k)) (length (mark_text v)) (all-at (λ x. nat_le (length (mark_text x)) (length (mark_text v))) ms i k a e)
+no_longer v ms a k (suc i) e = leb-true (length (mark_text k)) (length (mark_text v)) (all_at (λ x. nat_le (length (mark_text x)) (length (mark_text v))) ms i k a e)
 
 behind_other : (v : Mark) (ms : List Mark) (cs : List ℕ) (m k : Mark) (i : ℕ) (after : List ℕ) → strip (mark_text v) cs ≡ None → strip (mark_text k) cs ≡ Some after → slice_get (v ∷ ms) i ≡ Some k
     → ((j : ℕ) (rest : List ℕ) → slice_get ms j ≡ Some k → strip (mark_text k) cs ≡ Some rest → length (mark_text k) ≤ length (mark_text m)) → length (mark_text k) ≤ length (mark_text m)
@@ -201,10 +201,10 @@ behind_other v ms cs m k zero after b s e more =
     cc
 behind_other v ms cs m k (suc i) after b s e more = more i after e s
 
-found-here : (v : Mark) (ms : List Mark) (cs rest : List ℕ) (m : Mark) → list_all (λ k. nat_le (length (mark_text k)) (length (mark_text v))) ms ≡ true
+found_here : (v : Mark) (ms : List Mark) (cs rest : List ℕ) (m : Mark) → list_all (λ k. nat_le (length (mark_text k)) (length (mark_text v))) ms ≡ true
     → (mark_among ms cs ≡ Some (m, rest) → IsLongest m ms cs rest)
     → (o : Option (List ℕ)) → strip (mark_text v) cs ≡ o → or_mark v o (mark_among ms cs) ≡ Some (m, rest) → IsLongest m (v ∷ ms) cs rest
-found-here v ms cs rest m a more (Some r) b e =
+found_here v ms cs rest m a more (Some r) b e =
     let pair = same_Some (v, r) (m, rest) e in
     let at : v ≡ m = ap (λ p. p.0) pair in
     let behind : r ≡ rest = ap (λ p. p.1) pair in
@@ -212,37 +212,37 @@ found-here v ms cs rest m a more (Some r) b e =
       begins = ap (λ k. strip (mark_text k) cs) (sym at) ∙ b ∙ ap Some behind;
       longest = λ k i after in_list s. subst (λ x. length (mark_text k) ≤ length (mark_text x)) at (no_longer v ms a k i in_list);
     }
-found-here v ms cs rest m a more None b e =
+found_here v ms cs rest m a more None b e =
     let f = more e in
     record { begins = f.begins; longest = λ k i after in_list s. behind_other v ms cs m k i after b s in_list (f.longest k) }
 
-found-longest : (ms : List Mark) (cs rest : List ℕ) (m : Mark) → descends ms ≡ true → mark_among ms cs ≡ Some (m, rest) → IsLongest m ms cs rest
+found_longest : (ms : List Mark) (cs rest : List ℕ) (m : Mark) → descends ms ≡ true → mark_among ms cs ≡ Some (m, rest) → IsLongest m ms cs rest
 unfolding descends
-found-longest [] cs rest m d e = cc
-found-longest (v ∷ ms) cs rest m d e =
+found_longest [] cs rest m d e = cc
+found_longest (v ∷ ms) cs rest m d e =
     let h = and_parts (list_all (λ k. nat_le (length (mark_text k)) (length (mark_text v))) ms) (descends ms) d in
-    found-here v ms cs rest m h.0 (λ f. found-longest ms cs rest m h.1 f) (strip (mark_text v) cs) refl e
+    found_here v ms cs rest m h.0 (λ f. found_longest ms cs rest m h.1 f) (strip (mark_text v) cs) refl e
 
-none-here : (v : Mark) (ms : List Mark) (cs after : List ℕ) (k : Mark) (i : ℕ) → (mark_among ms cs ≡ None → (j : ℕ) → slice_get ms j ≡ Some k → strip (mark_text k) cs ≡ Some after → ⊥)
+none_here : (v : Mark) (ms : List Mark) (cs after : List ℕ) (k : Mark) (i : ℕ) → (mark_among ms cs ≡ None → (j : ℕ) → slice_get ms j ≡ Some k → strip (mark_text k) cs ≡ Some after → ⊥)
     → (o : Option (List ℕ)) → strip (mark_text v) cs ≡ o → or_mark v o (mark_among ms cs) ≡ None → slice_get (v ∷ ms) i ≡ Some k → strip (mark_text k) cs ≡ Some after → ⊥
-none-here v ms cs after k i more (Some r) s e at b = cc
-none-here v ms cs after k zero more None s e at b =
+none_here v ms cs after k i more (Some r) s e at b = cc
+none_here v ms cs after k zero more None s e at b =
     let here : v ≡ k = cc in
     let c : strip (mark_text k) cs ≡ None = subst (λ x. strip (mark_text x) cs ≡ None) here s in
     cc
-none-here v ms cs after k (suc i) more None s e at b = more e i at b
+none_here v ms cs after k (suc i) more None s e at b = more e i at b
 
-none-begins : (ms : List Mark) (cs after : List ℕ) (k : Mark) (i : ℕ) → mark_among ms cs ≡ None → slice_get ms i ≡ Some k → strip (mark_text k) cs ≡ Some after → ⊥
-none-begins [] cs after k i e at b = cc
-none-begins (v ∷ ms) cs after k i e at b =
-    none-here v ms cs after k i (λ f g. none-begins ms cs after k g f) (strip (mark_text v) cs) refl e at b
+none_begins : (ms : List Mark) (cs after : List ℕ) (k : Mark) (i : ℕ) → mark_among ms cs ≡ None → slice_get ms i ≡ Some k → strip (mark_text k) cs ≡ Some after → ⊥
+none_begins [] cs after k i e at b = cc
+none_begins (v ∷ ms) cs after k i e at b =
+    none_here v ms cs after k i (λ f g. none_begins ms cs after k g f) (strip (mark_text v) cs) refl e at b
 
 pub mark_at-found : (cs rest : List ℕ) (m : Mark) → mark_at cs ≡ Some (m, rest) → (strip (mark_text m) cs ≡ Some rest) × ((k : Mark) (after : List ℕ) → strip (mark_text k) cs ≡ Some after → length (mark_text k) ≤ length (mark_text m))
 unfolding mark_at
 mark_at-found cs rest m e =
-    let f = found-longest all_marks cs rest m marks-descend e in
+    let f = found_longest all_marks cs rest m marks_descend e in
     (f.begins, λ k after b. f.longest k (place k).0 after (place k).1 b)
 
 pub mark_at-none : (cs after : List ℕ) (k : Mark) → mark_at cs ≡ None → strip (mark_text k) cs ≡ Some after → ⊥
 unfolding mark_at
-mark_at-none cs after k e b = none-begins all_marks cs after k (place k).0 e (place k).1 b
+mark_at-none cs after k e b = none_begins all_marks cs after k (place k).0 e (place k).1 b

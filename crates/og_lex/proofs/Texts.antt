@@ -25,8 +25,8 @@ pub record IsPassed (p : ℕ → Bool) (text rest : List ℕ) : Type 0 where
   pub ran : run p (chars text) ≡ front ++ run p (chars rest)
   pub left : behind p (chars text) ≡ behind p (chars rest)
 
-pub passed-more : (p : ℕ → Bool) (text rest after : List ℕ) (c : ℕ) → IsPassed p text rest → chars rest ≡ c ∷ chars after → rest ≡ encode_utf8 c ++ after → p c ≡ true → IsPassed p text after
-passed-more p text rest after c h e w y =
+pub passed_more : (p : ℕ → Bool) (text rest after : List ℕ) (c : ℕ) → IsPassed p text rest → chars rest ≡ c ∷ chars after → rest ≡ encode_utf8 c ++ after → p c ≡ true → IsPassed p text after
+passed_more p text rest after c h e w y =
     let grown : encode_utf8_all (h.front ++ c ∷ []) ≡ encode_utf8_all h.front ++ encode_utf8 c =
     encodes-append h.front (c ∷ []) ∙ ap (λ x. encode_utf8_all h.front ++ x) (append-nil (encode_utf8 c)) in
     record {

@@ -17,12 +17,12 @@ use Rattle.og_lex.specs.Tables.{mark_text}
 use Rattle.og_lex.specs.LeftToRight.{strip, kind_of, word_of, name_at, under_at, number_of, number_or_fault, number_at, text_or_fault, text_at, separator_end, mark_at, mark_or_fault, separator_or, symbol_at, token_at}
 use Rattle.og_lex.specs.Spelling.{Spells, is_name, Begins, IsTokenAt, fault_of}
 use Rattle.og_lex.proofs.Texts.{run-yes}
-use Rattle.og_lex.proofs.CharacterRuns.{run-behind, behind-stops, front-le-run, run-exact, behind-exact}
+use Rattle.og_lex.proofs.CharacterRuns.{run-behind, behind-stops, front_le_run, run-exact, behind-exact}
 use Rattle.og_lex.proofs.Numbers.{run-all}
-use Rattle.og_lex.proofs.Strip.{strip-is, strip-append, ascii-encodes}
+use Rattle.og_lex.proofs.Strip.{strip-is, strip-append, ascii_encodes}
 use Rattle.og_lex.proofs.ByteLen.{length-le-byte_len}
-use Rattle.og_lex.proofs.FirstCharacter.{letter, line, digit, quote, symbol, sort_from, kind_sort, sort_of, sort_of-ascii, sort_of-starts, sort_of-digit, spelled-sort, spelled-some, word-is_name}
-use Rattle.og_lex.proofs.TableLookups.{word_of-text, word_of-is, mark-short, mark_at-found, mark_at-none}
+use Rattle.og_lex.proofs.FirstCharacter.{letter, line, digit, quote, symbol, sort_from, kind_sort, sort_of, sort_of-ascii, sort_of-starts, sort_of-digit, spelled_sort, spelled_some, word_is_name}
+use Rattle.og_lex.proofs.TableLookups.{word_of-text, word_of-is, mark_short, mark_at-found, mark_at-none}
 
 -- a token of the kind is taken at the front of the characters, and rest follows it
 pub record IsTaken (kind : Kind) (cs rest : List ℕ) : Type 0 where
@@ -33,42 +33,42 @@ pub record IsTaken (kind : Kind) (cs rest : List ℕ) : Type 0 where
 abbrev pub NoneBegins : List ℕ → Type 0
 NoneBegins cs = (kind : Kind) (front rest : List ℕ) → front ++ rest ≡ cs → Begins kind front rest → ⊥
 
-none-some : {A : Type 0} (x y : A) (o : Option A) → o ≡ None → o ≡ Some y → ⊥
-none-some x y o e f = cc
+none_some : {A : Type 0} (x y : A) (o : Option A) → o ≡ None → o ≡ Some y → ⊥
+none_some x y o e f = cc
 
 -- what the reading of a token tells of the characters c ∷ cs
 abbrev pub Tells : ℕ → ℕ → List ℕ → Result (Kind × List ℕ) LexFault → Type 0
 Tells place c cs (Ok (kind, rest)) = IsTaken kind (c ∷ cs) rest
 Tells place c cs (Err fault) = NoneBegins (c ∷ cs) × (fault ≡ fault_of place c)
 
-pub begins-sort : (kind : Kind) (front rest : List ℕ) (c : ℕ) (cs : List ℕ) → front ++ rest ≡ c ∷ cs → Begins kind front rest → sort_of c ≡ kind_sort kind
-begins-sort kind [] rest c cs e b = absurd (spelled-some kind [] b.spelled refl)
-begins-sort kind (d ∷ front) rest c cs e b = let at : d ≡ c = cc in ap sort_of (sym at) ∙ spelled-sort kind d front b.spelled
+pub begins_sort : (kind : Kind) (front rest : List ℕ) (c : ℕ) (cs : List ℕ) → front ++ rest ≡ c ∷ cs → Begins kind front rest → sort_of c ≡ kind_sort kind
+begins_sort kind [] rest c cs e b = absurd (spelled_some kind [] b.spelled refl)
+begins_sort kind (d ∷ front) rest c cs e b = let at : d ≡ c = cc in ap sort_of (sym at) ∙ spelled_sort kind d front b.spelled
 
-names-continue : (front : List ℕ) → is_name front ≡ true → list_all is_xid_continue front ≡ true
-names-continue [] e = refl
-names-continue (c ∷ cs) e =
+names_continue : (front : List ℕ) → is_name front ≡ true → list_all is_xid_continue front ≡ true
+names_continue [] e = refl
+names_continue (c ∷ cs) e =
     let h = and_parts (is_xid_start c) (list_all is_xid_continue cs) e in
     and_from (is_xid_continue c) (list_all is_xid_continue cs) (is_xid_start-is_xid_continue c h.0) h.1
 
 -- names and reserved words
-name-longest : (kind : Kind) (front rest : List ℕ) (c : ℕ) (cs : List ℕ) → sort_of c ≡ letter → front ++ rest ≡ c ∷ cs → Begins kind front rest → length front ≤ length (run is_xid_continue (c ∷ cs))
-name-longest kinds.Name front rest c cs s e b = subst (λ l. length front ≤ length (run is_xid_continue l)) e (front-le-run is_xid_continue front rest (names-continue front b.spelled.0))
-name-longest (kinds.Word w) front rest c cs s e b =
-    subst (λ l. length front ≤ length (run is_xid_continue l)) e (front-le-run is_xid_continue front rest (names-continue front (ap is_name b.spelled ∙ word-is_name w)))
-name-longest kinds.Under front rest c cs s e b = let t = begins-sort kinds.Under front rest c cs e b in cc
-name-longest (kinds.Number n) front rest c cs s e b = let t = begins-sort (kinds.Number n) front rest c cs e b in cc
-name-longest kinds.Text front rest c cs s e b = let t = begins-sort kinds.Text front rest c cs e b in cc
-name-longest (kinds.Mark m) front rest c cs s e b = let t = begins-sort (kinds.Mark m) front rest c cs e b in cc
-name-longest kinds.Separator front rest c cs s e b = let t = begins-sort kinds.Separator front rest c cs e b in cc
+name_longest : (kind : Kind) (front rest : List ℕ) (c : ℕ) (cs : List ℕ) → sort_of c ≡ letter → front ++ rest ≡ c ∷ cs → Begins kind front rest → length front ≤ length (run is_xid_continue (c ∷ cs))
+name_longest kinds.Name front rest c cs s e b = subst (λ l. length front ≤ length (run is_xid_continue l)) e (front_le_run is_xid_continue front rest (names_continue front b.spelled.0))
+name_longest (kinds.Word w) front rest c cs s e b =
+    subst (λ l. length front ≤ length (run is_xid_continue l)) e (front_le_run is_xid_continue front rest (names_continue front (ap is_name b.spelled ∙ word_is_name w)))
+name_longest kinds.Under front rest c cs s e b = let t = begins_sort kinds.Under front rest c cs e b in cc
+name_longest (kinds.Number n) front rest c cs s e b = let t = begins_sort (kinds.Number n) front rest c cs e b in cc
+name_longest kinds.Text front rest c cs s e b = let t = begins_sort kinds.Text front rest c cs e b in cc
+name_longest (kinds.Mark m) front rest c cs s e b = let t = begins_sort (kinds.Mark m) front rest c cs e b in cc
+name_longest kinds.Separator front rest c cs s e b = let t = begins_sort kinds.Separator front rest c cs e b in cc
 
-name-begins : (front rest : List ℕ) (o : Option Word) → is_name front ≡ true → word_of front ≡ o → Begins (kind_of o) front rest
-name-begins front rest None n e = record { spelled = (n, λ w at. let f = word_of-text w in let g = ap word_of at in cc); may_end = tt }
-name-begins front rest (Some w) n e = record { spelled = word_of-is front w e; may_end = tt }
+name_begins : (front rest : List ℕ) (o : Option Word) → is_name front ≡ true → word_of front ≡ o → Begins (kind_of o) front rest
+name_begins front rest None n e = record { spelled = (n, λ w at. let f = word_of-text w in let g = ap word_of at in cc); may_end = tt }
+name_begins front rest (Some w) n e = record { spelled = word_of-is front w e; may_end = tt }
 
-name-told : (place c : ℕ) (cs : List ℕ) → is_xid_start c ≡ true → Tells place c cs (Ok (name_at (c ∷ cs)))
+name_told : (place c : ℕ) (cs : List ℕ) → is_xid_start c ≡ true → Tells place c cs (Ok (name_at (c ∷ cs)))
 unfolding name_at
-name-told place c cs s =
+name_told place c cs s =
     let goes : is_xid_continue c ≡ true = is_xid_start-is_xid_continue c s in
     let front : run is_xid_continue (c ∷ cs) ≡ c ∷ run is_xid_continue cs = run-yes is_xid_continue c cs goes in
     let name : is_name (run is_xid_continue (c ∷ cs)) ≡ true =
@@ -78,8 +78,8 @@ name-told place c cs s =
       front = run is_xid_continue (c ∷ cs);
       whole = whole;
       taken = record {
-        begins = name-begins (run is_xid_continue (c ∷ cs)) (behind is_xid_continue (c ∷ cs)) (word_of (run is_xid_continue (c ∷ cs))) name refl;
-        longest = λ kind f r e b. name-longest kind f r c cs (sort_of-starts c s) (e ∙ sym whole) b;
+        begins = name_begins (run is_xid_continue (c ∷ cs)) (behind is_xid_continue (c ∷ cs)) (word_of (run is_xid_continue (c ∷ cs))) name refl;
+        longest = λ kind f r e b. name_longest kind f r c cs (sort_of-starts c s) (e ∙ sym whole) b;
       };
     }
 
@@ -88,30 +88,30 @@ two : (more : List ℕ) → more ≢ [] → 2 ≤ length (95 ∷ more)
 two [] some = absurd (some refl)
 two (c ∷ cs) some = omega arith
 
-under-all : (front : List ℕ) → Spells kinds.Under front → (list_all is_xid_continue front ≡ true) × (2 ≤ length front)
-under-all front s =
+under_all : (front : List ℕ) → Spells kinds.Under front → (list_all is_xid_continue front ≡ true) × (2 ≤ length front)
+under_all front s =
     let goes : is_xid_continue 95 ≡ true = is_xid_continue-ascii 95 (lit< tt) in
     (ap (list_all is_xid_continue) s.1 ∙ and_from (is_xid_continue 95) (list_all is_xid_continue s.0) goes s.3, omega (arith, ap length s.1, two s.0 s.2))
 
-under-longest : (kind : Kind) (front rest : List ℕ) (c : ℕ) (cs : List ℕ) → sort_of c ≡ line → front ++ rest ≡ c ∷ cs → Begins kind front rest → (length front ≤ length (run is_xid_continue (c ∷ cs))) × (2 ≤ length front)
-under-longest kinds.Under front rest c cs s e b =
-    let h = under-all front b.spelled in
-    (subst (λ l. length front ≤ length (run is_xid_continue l)) e (front-le-run is_xid_continue front rest h.0), h.1)
-under-longest kinds.Name front rest c cs s e b = let t = begins-sort kinds.Name front rest c cs e b in cc
-under-longest (kinds.Word w) front rest c cs s e b = let t = begins-sort (kinds.Word w) front rest c cs e b in cc
-under-longest (kinds.Number n) front rest c cs s e b = let t = begins-sort (kinds.Number n) front rest c cs e b in cc
-under-longest kinds.Text front rest c cs s e b = let t = begins-sort kinds.Text front rest c cs e b in cc
-under-longest (kinds.Mark m) front rest c cs s e b = let t = begins-sort (kinds.Mark m) front rest c cs e b in cc
-under-longest kinds.Separator front rest c cs s e b = let t = begins-sort kinds.Separator front rest c cs e b in cc
+under_longest : (kind : Kind) (front rest : List ℕ) (c : ℕ) (cs : List ℕ) → sort_of c ≡ line → front ++ rest ≡ c ∷ cs → Begins kind front rest → (length front ≤ length (run is_xid_continue (c ∷ cs))) × (2 ≤ length front)
+under_longest kinds.Under front rest c cs s e b =
+    let h = under_all front b.spelled in
+    (subst (λ l. length front ≤ length (run is_xid_continue l)) e (front_le_run is_xid_continue front rest h.0), h.1)
+under_longest kinds.Name front rest c cs s e b = let t = begins_sort kinds.Name front rest c cs e b in cc
+under_longest (kinds.Word w) front rest c cs s e b = let t = begins_sort (kinds.Word w) front rest c cs e b in cc
+under_longest (kinds.Number n) front rest c cs s e b = let t = begins_sort (kinds.Number n) front rest c cs e b in cc
+under_longest kinds.Text front rest c cs s e b = let t = begins_sort kinds.Text front rest c cs e b in cc
+under_longest (kinds.Mark m) front rest c cs s e b = let t = begins_sort (kinds.Mark m) front rest c cs e b in cc
+under_longest kinds.Separator front rest c cs s e b = let t = begins_sort kinds.Separator front rest c cs e b in cc
 
 -- one byte is no more than an underscore
 line_alone : byte_len (95 ∷ []) ≡ 1
 unfolding byte_len
-line_alone = ap length (ascii-encodes (95 ∷ []) refl)
+line_alone = ap length (ascii_encodes (95 ∷ []) refl)
 
-under-told : (place c : ℕ) (cs : List ℕ) → c ≡ 95 → Tells place c cs (under_at place (c ∷ cs))
+under_told : (place c : ℕ) (cs : List ℕ) → c ≡ 95 → Tells place c cs (under_at place (c ∷ cs))
 unfolding under_at
-under-told place c cs at =
+under_told place c cs at =
     let goes : is_xid_continue c ≡ true = ap is_xid_continue at ∙ is_xid_continue-ascii 95 (lit< tt) in
     let sort : sort_of c ≡ line = ap sort_of at ∙ sort_of-ascii 95 (lit< tt) in
     let front : run is_xid_continue (c ∷ cs) ≡ c ∷ run is_xid_continue cs = run-yes is_xid_continue c cs goes in
@@ -131,33 +131,33 @@ under-told place c cs at =
           );
           may_end = tt;
         };
-        longest = λ kind f r e b. (under-longest kind f r c cs sort (e ∙ sym whole) b).0;
+        longest = λ kind f r e b. (under_longest kind f r c cs sort (e ∙ sym whole) b).0;
       };
     })
     (λ short. (
       (λ kind f r e b.
-          let h = under-longest kind f r c cs sort e b in
+          let h = under_longest kind f r c cs sort e b in
           omega (arith, h.0, h.1, length-le-byte_len (run is_xid_continue (c ∷ cs)), ltb-false 1 (byte_len (run is_xid_continue (c ∷ cs))) short)),
       ap (fault_of place) (sym at),
     ))
 
 -- digits
-number-exact : (n : ℕ) (front rest cs : List ℕ) → front ++ rest ≡ cs → Begins (kinds.Number n) front rest → run is_digit cs ≡ front
-number-exact n front rest cs e b = ap (run is_digit) (sym e) ∙ run-exact is_digit front rest b.spelled.1 b.may_end
+number_exact : (n : ℕ) (front rest cs : List ℕ) → front ++ rest ≡ cs → Begins (kinds.Number n) front rest → run is_digit cs ≡ front
+number_exact n front rest cs e b = ap (run is_digit) (sym e) ∙ run-exact is_digit front rest b.spelled.1 b.may_end
 
-number-only : (kind : Kind) (front rest : List ℕ) (c : ℕ) (cs : List ℕ) → sort_of c ≡ digit → front ++ rest ≡ c ∷ cs → Begins kind front rest
+number_only : (kind : Kind) (front rest : List ℕ) (c : ℕ) (cs : List ℕ) → sort_of c ≡ digit → front ++ rest ≡ c ∷ cs → Begins kind front rest
     → (run is_digit (c ∷ cs) ≡ front) × (digits_value 10 front < 2 ^ 63)
-number-only (kinds.Number n) front rest c cs s e b = (number-exact n front rest (c ∷ cs) e b, omega (arith, b.spelled.2, b.spelled.3))
-number-only kinds.Name front rest c cs s e b = let t = begins-sort kinds.Name front rest c cs e b in cc
-number-only (kinds.Word w) front rest c cs s e b = let t = begins-sort (kinds.Word w) front rest c cs e b in cc
-number-only kinds.Under front rest c cs s e b = let t = begins-sort kinds.Under front rest c cs e b in cc
-number-only kinds.Text front rest c cs s e b = let t = begins-sort kinds.Text front rest c cs e b in cc
-number-only (kinds.Mark m) front rest c cs s e b = let t = begins-sort (kinds.Mark m) front rest c cs e b in cc
-number-only kinds.Separator front rest c cs s e b = let t = begins-sort kinds.Separator front rest c cs e b in cc
+number_only (kinds.Number n) front rest c cs s e b = (number_exact n front rest (c ∷ cs) e b, omega (arith, b.spelled.2, b.spelled.3))
+number_only kinds.Name front rest c cs s e b = let t = begins_sort kinds.Name front rest c cs e b in cc
+number_only (kinds.Word w) front rest c cs s e b = let t = begins_sort (kinds.Word w) front rest c cs e b in cc
+number_only kinds.Under front rest c cs s e b = let t = begins_sort kinds.Under front rest c cs e b in cc
+number_only kinds.Text front rest c cs s e b = let t = begins_sort kinds.Text front rest c cs e b in cc
+number_only (kinds.Mark m) front rest c cs s e b = let t = begins_sort (kinds.Mark m) front rest c cs e b in cc
+number_only kinds.Separator front rest c cs s e b = let t = begins_sort kinds.Separator front rest c cs e b in cc
 
-number-told : (place c : ℕ) (cs : List ℕ) → is_digit c ≡ true → Tells place c cs (number_at place (c ∷ cs))
+number_told : (place c : ℕ) (cs : List ℕ) → is_digit c ≡ true → Tells place c cs (number_at place (c ∷ cs))
 unfolding number_at
-number-told place c cs d =
+number_told place c cs d =
     let ds : List ℕ = run is_digit cs in
     let rest : List ℕ = behind is_digit (c ∷ cs) in
     let front : run is_digit (c ∷ cs) ≡ c ∷ ds = run-yes is_digit c cs d in
@@ -173,20 +173,20 @@ number-told place c cs d =
           spelled = ((λ e. cc), and_from (is_digit c) (list_all is_digit ds) d (run-all is_digit cs), refl, ltb-true (digits_value 10 (c ∷ ds)) (2 ^ 63) small);
           may_end = behind-stops is_digit (c ∷ cs);
         };
-        longest = λ kind f r e b. let h = number-only kind f r c cs sort (e ∙ sym whole) b in omega (arith, ap length (sym h.0 ∙ front));
+        longest = λ kind f r e b. let h = number_only kind f r c cs sort (e ∙ sym whole) b in omega (arith, ap length (sym h.0 ∙ front));
       };
     })
     (λ wide. (
       (λ kind f r e b.
-          let h = number-only kind f r c cs sort e b in
+          let h = number_only kind f r c cs sort e b in
           let v : digits_value 10 f ≡ digits_value 10 (c ∷ ds) = ap (digits_value 10) (sym h.0 ∙ front) in
           omega (arith, h.1, v, ltb-false (digits_value 10 (c ∷ ds)) (2 ^ 63) wide)),
       sym (cond-true (is_digit c) (faults.WideNumber place) (cond (c == 34) (faults.OpenText place) (faults.BadChar place)) d),
     )))
 
 -- a double quote
-text-only : (kind : Kind) (front rest : List ℕ) (c : ℕ) (cs : List ℕ) → sort_of c ≡ quote → front ++ rest ≡ c ∷ cs → Begins kind front rest → strip (34 ∷ []) (behind is_in_text cs) ≡ Some rest
-text-only kinds.Text front rest c cs s e b =
+text_only : (kind : Kind) (front rest : List ℕ) (c : ℕ) (cs : List ℕ) → sort_of c ≡ quote → front ++ rest ≡ c ∷ cs → Begins kind front rest → strip (34 ∷ []) (behind is_in_text cs) ≡ Some rest
+text_only kinds.Text front rest c cs s e b =
     let inside : List ℕ = b.spelled.0 in
     let after : (34 ∷ (inside ++ 34 ∷ [])) ++ rest ≡ c ∷ cs = ap (λ l. l ++ rest) (sym b.spelled.1) ∙ e in
     let tail : (inside ++ 34 ∷ []) ++ rest ≡ cs = cc in
@@ -194,19 +194,19 @@ text-only kinds.Text front rest c cs s e b =
     ap (λ l. strip (34 ∷ []) (behind is_in_text l)) (sym split)
     ∙ ap (strip (34 ∷ [])) (behind-exact is_in_text inside (34 ∷ rest) b.spelled.2 refl)
     ∙ strip-append (34 ∷ []) rest
-text-only kinds.Name front rest c cs s e b = let t = begins-sort kinds.Name front rest c cs e b in cc
-text-only (kinds.Word w) front rest c cs s e b = let t = begins-sort (kinds.Word w) front rest c cs e b in cc
-text-only kinds.Under front rest c cs s e b = let t = begins-sort kinds.Under front rest c cs e b in cc
-text-only (kinds.Number n) front rest c cs s e b = let t = begins-sort (kinds.Number n) front rest c cs e b in cc
-text-only (kinds.Mark m) front rest c cs s e b = let t = begins-sort (kinds.Mark m) front rest c cs e b in cc
-text-only kinds.Separator front rest c cs s e b = let t = begins-sort kinds.Separator front rest c cs e b in cc
+text_only kinds.Name front rest c cs s e b = let t = begins_sort kinds.Name front rest c cs e b in cc
+text_only (kinds.Word w) front rest c cs s e b = let t = begins_sort (kinds.Word w) front rest c cs e b in cc
+text_only kinds.Under front rest c cs s e b = let t = begins_sort kinds.Under front rest c cs e b in cc
+text_only (kinds.Number n) front rest c cs s e b = let t = begins_sort (kinds.Number n) front rest c cs e b in cc
+text_only (kinds.Mark m) front rest c cs s e b = let t = begins_sort (kinds.Mark m) front rest c cs e b in cc
+text_only kinds.Separator front rest c cs s e b = let t = begins_sort kinds.Separator front rest c cs e b in cc
 
 -- two cuts with one rest are of one length
-same-length : (f r g s cs : List ℕ) → f ++ r ≡ cs → g ++ s ≡ cs → r ≡ s → length f ≡ length g
-same-length f r g s cs e h t = omega (arith, ap length e, ap length h, ap length t, length-append f r, length-append g s)
+same_length : (f r g s cs : List ℕ) → f ++ r ≡ cs → g ++ s ≡ cs → r ≡ s → length f ≡ length g
+same_length f r g s cs e h t = omega (arith, ap length e, ap length h, ap length t, length-append f r, length-append g s)
 
-text-found : (place c : ℕ) (cs rest : List ℕ) → c ≡ 34 → strip (34 ∷ []) (behind is_in_text cs) ≡ Some rest → IsTaken kinds.Text (c ∷ cs) rest
-text-found place c cs rest at e =
+text_found : (place c : ℕ) (cs rest : List ℕ) → c ≡ 34 → strip (34 ∷ []) (behind is_in_text cs) ≡ Some rest → IsTaken kinds.Text (c ∷ cs) rest
+text_found place c cs rest at e =
     let inside : List ℕ = run is_in_text cs in
     let sort : sort_of c ≡ quote = ap sort_of at ∙ sort_of-ascii 34 (lit< tt) in
     let end : behind is_in_text cs ≡ (34 ∷ []) ++ rest = strip-is (34 ∷ []) (behind is_in_text cs) rest e in
@@ -219,41 +219,41 @@ text-found place c cs rest at e =
         begins = record { spelled = (inside, refl, run-all is_in_text cs); may_end = tt };
         longest = λ kind f r g b.
             let here : f ++ r ≡ c ∷ cs = g ∙ sym whole in
-            let t = text-only kind f r c cs sort here b in
+            let t = text_only kind f r c cs sort here b in
             let one : r ≡ rest = cc in
-            omega (arith, same-length f r (34 ∷ (inside ++ 34 ∷ [])) rest (c ∷ cs) here (sym whole) one);
+            omega (arith, same_length f r (34 ∷ (inside ++ 34 ∷ [])) rest (c ∷ cs) here (sym whole) one);
       };
     }
 
-text-closed : (place c : ℕ) (cs : List ℕ) → c ≡ 34 → (o : Option (List ℕ)) → strip (34 ∷ []) (behind is_in_text cs) ≡ o → Tells place c cs (text_or_fault place o)
-text-closed place c cs at (Some rest) e = text-found place c cs rest at e
-text-closed place c cs at None e = (
-  (λ kind f r g b. let t = text-only kind f r c cs (ap sort_of at ∙ sort_of-ascii 34 (lit< tt)) g b in cc),
+text_closed : (place c : ℕ) (cs : List ℕ) → c ≡ 34 → (o : Option (List ℕ)) → strip (34 ∷ []) (behind is_in_text cs) ≡ o → Tells place c cs (text_or_fault place o)
+text_closed place c cs at (Some rest) e = text_found place c cs rest at e
+text_closed place c cs at None e = (
+  (λ kind f r g b. let t = text_only kind f r c cs (ap sort_of at ∙ sort_of-ascii 34 (lit< tt)) g b in cc),
   ap (fault_of place) (sym at),
 )
 
-text-told : (place c : ℕ) (cs : List ℕ) → c ≡ 34 → Tells place c cs (text_at place cs)
+text_told : (place c : ℕ) (cs : List ℕ) → c ≡ 34 → Tells place c cs (text_at place cs)
 unfolding text_at
-text-told place c cs at = text-closed place c cs at (strip (34 ∷ []) (behind is_in_text cs)) refl
+text_told place c cs at = text_closed place c cs at (strip (34 ∷ []) (behind is_in_text cs)) refl
 
 -- the separator and the marks
-hyphens-ascii : (hs : List ℕ) → list_all is_hyphen hs ≡ true → list_all is_ascii_char hs ≡ true
-hyphens-ascii [] e = refl
-hyphens-ascii (h ∷ hs) e =
+hyphens_ascii : (hs : List ℕ) → list_all is_hyphen hs ≡ true → list_all is_ascii_char hs ≡ true
+hyphens_ascii [] e = refl
+hyphens_ascii (h ∷ hs) e =
     let p = and_parts (is_hyphen h) (list_all is_hyphen hs) e in
-    and_from (is_ascii_char h) (list_all is_ascii_char hs) (ap is_ascii_char (eqb-true h 45 p.0)) (hyphens-ascii hs p.1)
+    and_from (is_ascii_char h) (list_all is_ascii_char hs) (ap is_ascii_char (eqb-true h 45 p.0)) (hyphens_ascii hs p.1)
 
-hyphens-length : (hs : List ℕ) → list_all is_hyphen hs ≡ true → byte_len hs ≡ length hs
+hyphens_length : (hs : List ℕ) → list_all is_hyphen hs ≡ true → byte_len hs ≡ length hs
 unfolding byte_len
-hyphens-length hs e = ap length (ascii-encodes hs (hyphens-ascii hs e))
+hyphens_length hs e = ap length (ascii_encodes hs (hyphens_ascii hs e))
 
 -- what follows a separator that begins with c
 abbrev separator_of : ℕ → List ℕ → Option (List ℕ)
 separator_of c cs = cond (c == 58) (separator_end cs) None
 
-separator-ends : (front rest : List ℕ) (c : ℕ) (cs : List ℕ) → front ++ rest ≡ c ∷ cs → Spells kinds.Separator front → separator_of c cs ≡ Some rest
+separator_ends : (front rest : List ℕ) (c : ℕ) (cs : List ℕ) → front ++ rest ≡ c ∷ cs → Spells kinds.Separator front → separator_of c cs ≡ Some rest
 unfolding separator_end
-separator-ends front rest c cs e s =
+separator_ends front rest c cs e s =
     let hs : List ℕ = s.0 in
     let after : (58 ∷ (hs ++ 58 ∷ [])) ++ rest ≡ c ∷ cs = ap (λ l. l ++ rest) (sym s.1) ∙ e in
     let at : 58 ≡ c = cc in
@@ -261,45 +261,45 @@ separator-ends front rest c cs e s =
     let split : hs ++ (58 ∷ rest) ≡ cs = sym (append_assoc hs (58 ∷ []) rest) ∙ tail in
     let ran : run is_hyphen cs ≡ hs = ap (run is_hyphen) (sym split) ∙ run-exact is_hyphen hs (58 ∷ rest) s.2 refl in
     let left : behind is_hyphen cs ≡ 58 ∷ rest = ap (behind is_hyphen) (sym split) ∙ behind-exact is_hyphen hs (58 ∷ rest) s.2 refl in
-    let long : nat_lt (byte_len (run is_hyphen cs)) 3 ≡ false = le-ltb (byte_len (run is_hyphen cs)) 3 (omega (arith, ap byte_len ran, hyphens-length hs s.2, s.3)) in
+    let long : nat_lt (byte_len (run is_hyphen cs)) 3 ≡ false = le-ltb (byte_len (run is_hyphen cs)) 3 (omega (arith, ap byte_len ran, hyphens_length hs s.2, s.3)) in
     cond-true (c == 58) (separator_end cs) None (eq-eqb c 58 (sym at))
     ∙ cond-false (nat_lt (byte_len (run is_hyphen cs)) 3) None (strip (58 ∷ []) (behind is_hyphen cs)) long
     ∙ ap (strip (58 ∷ [])) left ∙ strip-append (58 ∷ []) rest
 
-taken-first : {A : Type 0} (b : Bool) (o : Option A) (x : A) → cond b o None ≡ Some x → (b ≡ true) × (o ≡ Some x)
-taken-first true o x e = (refl, e)
-taken-first false o x e = cc
+taken_first : {A : Type 0} (b : Bool) (o : Option A) (x : A) → cond b o None ≡ Some x → (b ≡ true) × (o ≡ Some x)
+taken_first true o x e = (refl, e)
+taken_first false o x e = cc
 
-taken-second : {A : Type 0} (b : Bool) (o : Option A) (x : A) → cond b None o ≡ Some x → (b ≡ false) × (o ≡ Some x)
-taken-second true o x e = cc
-taken-second false o x e = (refl, e)
+taken_second : {A : Type 0} (b : Bool) (o : Option A) (x : A) → cond b None o ≡ Some x → (b ≡ false) × (o ≡ Some x)
+taken_second true o x e = cc
+taken_second false o x e = (refl, e)
 
 -- the parts of a separator that was found
-separator-parts : (c : ℕ) (cs rest : List ℕ) → separator_of c cs ≡ Some rest → (c ≡ 58) × (3 ≤ length (run is_hyphen cs)) × (cs ≡ (run is_hyphen cs ++ 58 ∷ []) ++ rest)
+separator_parts : (c : ℕ) (cs rest : List ℕ) → separator_of c cs ≡ Some rest → (c ≡ 58) × (3 ≤ length (run is_hyphen cs)) × (cs ≡ (run is_hyphen cs ++ 58 ∷ []) ++ rest)
 unfolding separator_end
-separator-parts c cs rest e =
-    let a = taken-first (c == 58) (separator_end cs) rest e in
-    let b = taken-second (nat_lt (byte_len (run is_hyphen cs)) 3) (strip (58 ∷ []) (behind is_hyphen cs)) rest a.1 in
+separator_parts c cs rest e =
+    let a = taken_first (c == 58) (separator_end cs) rest e in
+    let b = taken_second (nat_lt (byte_len (run is_hyphen cs)) 3) (strip (58 ∷ []) (behind is_hyphen cs)) rest a.1 in
     let end : behind is_hyphen cs ≡ (58 ∷ []) ++ rest = strip-is (58 ∷ []) (behind is_hyphen cs) rest b.1 in (
       eqb-true c 58 a.0,
-      omega (arith, ltb-false (byte_len (run is_hyphen cs)) 3 b.0, hyphens-length (run is_hyphen cs) (run-all is_hyphen cs)),
+      omega (arith, ltb-false (byte_len (run is_hyphen cs)) 3 b.0, hyphens_length (run is_hyphen cs) (run-all is_hyphen cs)),
       run-behind is_hyphen cs ∙ ap (λ l. run is_hyphen cs ++ l) end ∙ sym (append_assoc (run is_hyphen cs) (58 ∷ []) rest),
     )
 
-symbol-kinds : (kind : Kind) (front rest : List ℕ) (c : ℕ) (cs : List ℕ) → sort_of c ≡ symbol → front ++ rest ≡ c ∷ cs → Begins kind front rest
+symbol_kinds : (kind : Kind) (front rest : List ℕ) (c : ℕ) (cs : List ℕ) → sort_of c ≡ symbol → front ++ rest ≡ c ∷ cs → Begins kind front rest
     → (separator_of c cs ≡ Some rest) ⊎ ((m : Mark) × (front ≡ mark_text m) × (strip (mark_text m) (c ∷ cs) ≡ Some rest))
-symbol-kinds kinds.Separator front rest c cs s e b = inl (separator-ends front rest c cs e b.spelled)
-symbol-kinds (kinds.Mark m) front rest c cs s e b =
+symbol_kinds kinds.Separator front rest c cs s e b = inl (separator_ends front rest c cs e b.spelled)
+symbol_kinds (kinds.Mark m) front rest c cs s e b =
     inr (m, b.spelled, ap (strip (mark_text m)) (sym e ∙ ap (λ l. l ++ rest) b.spelled) ∙ strip-append (mark_text m) rest)
-symbol-kinds kinds.Name front rest c cs s e b = let t = begins-sort kinds.Name front rest c cs e b in cc
-symbol-kinds (kinds.Word w) front rest c cs s e b = let t = begins-sort (kinds.Word w) front rest c cs e b in cc
-symbol-kinds kinds.Under front rest c cs s e b = let t = begins-sort kinds.Under front rest c cs e b in cc
-symbol-kinds (kinds.Number n) front rest c cs s e b = let t = begins-sort (kinds.Number n) front rest c cs e b in cc
-symbol-kinds kinds.Text front rest c cs s e b = let t = begins-sort kinds.Text front rest c cs e b in cc
+symbol_kinds kinds.Name front rest c cs s e b = let t = begins_sort kinds.Name front rest c cs e b in cc
+symbol_kinds (kinds.Word w) front rest c cs s e b = let t = begins_sort (kinds.Word w) front rest c cs e b in cc
+symbol_kinds kinds.Under front rest c cs s e b = let t = begins_sort kinds.Under front rest c cs e b in cc
+symbol_kinds (kinds.Number n) front rest c cs s e b = let t = begins_sort (kinds.Number n) front rest c cs e b in cc
+symbol_kinds kinds.Text front rest c cs s e b = let t = begins_sort kinds.Text front rest c cs e b in cc
 
-separator-found : (c : ℕ) (cs rest : List ℕ) → sort_of c ≡ symbol → separator_of c cs ≡ Some rest → IsTaken kinds.Separator (c ∷ cs) rest
-separator-found c cs rest sort e =
-    let p = separator-parts c cs rest e in
+separator_found : (c : ℕ) (cs rest : List ℕ) → sort_of c ≡ symbol → separator_of c cs ≡ Some rest → IsTaken kinds.Separator (c ∷ cs) rest
+separator_found c cs rest sort e =
+    let p = separator_parts c cs rest e in
     let hs : List ℕ = run is_hyphen cs in
     let front : List ℕ = 58 ∷ (hs ++ 58 ∷ []) in
     let whole : c ∷ cs ≡ front ++ rest = ap (λ x. x ∷ cs) p.0 ∙ ap (λ l. 58 ∷ l) p.2 in
@@ -310,15 +310,15 @@ separator-found c cs rest sort e =
         begins = record { spelled = (hs, refl, run-all is_hyphen cs, p.1); may_end = tt };
         longest = λ kind f r g b.
             let here : f ++ r ≡ c ∷ cs = g ∙ sym whole in
-            elim (symbol-kinds kind f r c cs sort here b) [
-              | inl t ↦ let one : r ≡ rest = cc in omega (arith, same-length f r front rest (c ∷ cs) here (sym whole) one)
-              | inr t ↦ omega (arith, ap length t.1, mark-short t.0, p.1, length-append hs (58 ∷ []))
+            elim (symbol_kinds kind f r c cs sort here b) [
+              | inl t ↦ let one : r ≡ rest = cc in omega (arith, same_length f r front rest (c ∷ cs) here (sym whole) one)
+              | inr t ↦ omega (arith, ap length t.1, mark_short t.0, p.1, length-append hs (58 ∷ []))
             ];
       };
     }
 
-mark-found : (c : ℕ) (cs rest : List ℕ) (m : Mark) → sort_of c ≡ symbol → separator_of c cs ≡ None → mark_at (c ∷ cs) ≡ Some (m, rest) → IsTaken (kinds.Mark m) (c ∷ cs) rest
-mark-found c cs rest m sort none e =
+mark_found : (c : ℕ) (cs rest : List ℕ) (m : Mark) → sort_of c ≡ symbol → separator_of c cs ≡ None → mark_at (c ∷ cs) ≡ Some (m, rest) → IsTaken (kinds.Mark m) (c ∷ cs) rest
+mark_found c cs rest m sort none e =
     let found = mark_at-found (c ∷ cs) rest m e in
     let whole : c ∷ cs ≡ mark_text m ++ rest = strip-is (mark_text m) (c ∷ cs) rest found.0 in
     record {
@@ -327,47 +327,47 @@ mark-found c cs rest m sort none e =
       taken = record {
         begins = record { spelled = refl; may_end = tt };
         longest = λ kind f r g b.
-            elim (symbol-kinds kind f r c cs sort (g ∙ sym whole) b) [
-              | inl t ↦ absurd (none-some rest r (separator_of c cs) none t)
+            elim (symbol_kinds kind f r c cs sort (g ∙ sym whole) b) [
+              | inl t ↦ absurd (none_some rest r (separator_of c cs) none t)
               | inr t ↦ omega (arith, ap length t.1, found.1 t.0 r t.2)
             ];
       };
     }
 
-symbol-separated : (place c : ℕ) (cs : List ℕ) → sort_of c ≡ symbol → is_digit c ≡ false → (c == 34) ≡ false
+symbol_separated : (place c : ℕ) (cs : List ℕ) → sort_of c ≡ symbol → is_digit c ≡ false → (c == 34) ≡ false
     → (s : Option (List ℕ)) → separator_of c cs ≡ s → (o : Option (Mark × List ℕ)) → mark_at (c ∷ cs) ≡ o → Tells place c cs (separator_or s (mark_or_fault place o))
-symbol-separated place c cs sort d q (Some rest) e o f = separator-found c cs rest sort e
-symbol-separated place c cs sort d q None e (Some (m, rest)) f = mark-found c cs rest m sort e f
-symbol-separated place c cs sort d q None e None f = (
-  (λ kind front r g b. elim (symbol-kinds kind front r c cs sort g b) [
-    | inl t ↦ none-some r r (separator_of c cs) e t
+symbol_separated place c cs sort d q (Some rest) e o f = separator_found c cs rest sort e
+symbol_separated place c cs sort d q None e (Some (m, rest)) f = mark_found c cs rest m sort e f
+symbol_separated place c cs sort d q None e None f = (
+  (λ kind front r g b. elim (symbol_kinds kind front r c cs sort g b) [
+    | inl t ↦ none_some r r (separator_of c cs) e t
     | inr t ↦ mark_at-none (c ∷ cs) r t.0 f t.2
   ]),
   sym (cond-false (is_digit c) (faults.WideNumber place) (cond (c == 34) (faults.OpenText place) (faults.BadChar place)) d ∙ cond-false (c == 34) (faults.OpenText place) (faults.BadChar place) q),
 )
 
-symbol-told : (place c : ℕ) (cs : List ℕ) → sort_of c ≡ symbol → is_digit c ≡ false → (c == 34) ≡ false → Tells place c cs (symbol_at place c cs (c ∷ cs))
+symbol_told : (place c : ℕ) (cs : List ℕ) → sort_of c ≡ symbol → is_digit c ≡ false → (c == 34) ≡ false → Tells place c cs (symbol_at place c cs (c ∷ cs))
 unfolding symbol_at
-symbol-told place c cs sort d q = symbol-separated place c cs sort d q (separator_of c cs) refl (mark_at (c ∷ cs)) refl
+symbol_told place c cs sort d q = symbol_separated place c cs sort d q (separator_of c cs) refl (mark_at (c ∷ cs)) refl
 
-other-sort : (c : ℕ) → is_blank c ≡ false → is_xid_start c ≡ false → (c == 95) ≡ false → is_digit c ≡ false → (c == 34) ≡ false → sort_of c ≡ symbol
+other_sort : (c : ℕ) → is_blank c ≡ false → is_xid_start c ≡ false → (c == 95) ≡ false → is_digit c ≡ false → (c == 34) ≡ false → sort_of c ≡ symbol
 unfolding sort_of
-other-sort c b s u d q =
+other_sort c b s u d q =
     ap (λ x. sort_from x (is_xid_start c) (c == 95) (is_digit c) (c == 34)) b
     ∙ ap (λ x. sort_from false x (c == 95) (is_digit c) (c == 34)) s
     ∙ ap (λ x. sort_from false false x (is_digit c) (c == 34)) u
     ∙ ap (λ x. sort_from false false false x (c == 34)) d
     ∙ ap (λ x. sort_from false false false false x) q
 
-pub token-told : (place c : ℕ) (cs : List ℕ) → is_blank c ≡ false → Tells place c cs (token_at place (c ∷ cs))
+pub token_told : (place c : ℕ) (cs : List ℕ) → is_blank c ≡ false → Tells place c cs (token_at place (c ∷ cs))
 unfolding token_at
-token-told place c cs b =
+token_told place c cs b =
     cond_both (is_xid_start c) (Ok (name_at (c ∷ cs))) (cond (c == 95) (under_at place (c ∷ cs)) (cond (is_digit c) (number_at place (c ∷ cs)) (cond (c == 34) (text_at place cs) (symbol_at place c cs (c ∷ cs))))) (Tells place c cs)
-    (λ starts. name-told place c cs starts)
+    (λ starts. name_told place c cs starts)
     (λ s. cond_both (c == 95) (under_at place (c ∷ cs)) (cond (is_digit c) (number_at place (c ∷ cs)) (cond (c == 34) (text_at place cs) (symbol_at place c cs (c ∷ cs)))) (Tells place c cs)
-    (λ at. under-told place c cs (eqb-true c 95 at))
+    (λ at. under_told place c cs (eqb-true c 95 at))
     (λ u. cond_both (is_digit c) (number_at place (c ∷ cs)) (cond (c == 34) (text_at place cs) (symbol_at place c cs (c ∷ cs))) (Tells place c cs)
-    (λ d. number-told place c cs d)
+    (λ d. number_told place c cs d)
     (λ d. cond_both (c == 34) (text_at place cs) (symbol_at place c cs (c ∷ cs)) (Tells place c cs)
-    (λ at. text-told place c cs (eqb-true c 34 at))
-    (λ q. symbol-told place c cs (other-sort c b s u d q) d q))))
+    (λ at. text_told place c cs (eqb-true c 34 at))
+    (λ q. symbol_told place c cs (other_sort c b s u d q) d q))))
