@@ -4,7 +4,7 @@ use Rattle.std.specs.Prelude.{flat_map, nat_lt, slice_get, slice_set, Option, So
 use Rattle.std.specs.List.{enumerate_from}
 use Rattle.std.specs.Option.{option_map_or}
 use Rattle.std.proofs.lemmas.Option.{none-some}
-use Rattle.std.proofs.lemmas.Bool.{ltb-false, le-ltb, false≢true}
+use Rattle.std.proofs.lemmas.Bool.{ltb-false, le-ltb}
 use Prim.Native.Nat.{zero, suc}
 use Rattle.og_small.specs.declared.tree.SmallGame.{SmallGame}
 use Rattle.og_small.specs.declared.tree.Line.{Line}
@@ -12,28 +12,18 @@ use Rattle.og_small.specs.Rules.{cases_of}
 use Rattle.og_small.specs.Meaning.{total, deviation, deviations_at, deviations}
 use Rattle.og_small.specs.Equilibrium.{IsEquilibrium}
 
-abbrev is_none : {Y : Type 0} → List Y → Bool
-is_none [] = true
-is_none (y ∷ ys) = false
-
-some_none : {Y : Type 0} (y : Y) (ys : List Y) → y ∷ ys ≡ [] → ⊥
-some_none y ys none = false≢true (ap is_none none)
-
 front_none : {Y : Type 0} (xs ys : List Y) → xs ++ ys ≡ [] → xs ≡ []
 front_none [] ys none = refl
-front_none (x ∷ xs) ys none = absurd (some_none x (xs ++ ys) none)
+front_none (x ∷ xs) ys none = cc
 
 back_none : {Y : Type 0} (xs ys : List Y) → xs ++ ys ≡ [] → ys ≡ []
 back_none [] ys none = none
-back_none (x ∷ xs) ys none = absurd (some_none x (xs ++ ys) none)
-
-same_some : {X : Type 0} (x y : X) → Some x ≡ Some y → x ≡ y
-same_some x y is = ap (λ found. option_map_or (λ z. z) found x) is
+back_none (x ∷ xs) ys none = cc
 
 module _ {X Y : Type 0} (f : X → List Y) where
   each_none : (xs : List X) (k : ℕ) (x : X) → flat_map f xs ≡ [] → slice_get xs k ≡ Some x → f x ≡ []
   each_none [] k x none is = absurd (none-some x is)
-  each_none (y ∷ ys) zero x none is = ap f (sym (same_some y x is)) ∙ front_none (f y) (flat_map f ys) none
+  each_none (y ∷ ys) zero x none is = let same : x ≡ y = cc in ap f same ∙ front_none (f y) (flat_map f ys) none
   each_none (y ∷ ys) (suc k) x none is = each_none ys k x (back_none (f y) (flat_map f ys) none) is
 
   all_none : (xs : List X) → ((k : ℕ) (x : X) → slice_get xs k ≡ Some x → f x ≡ []) → flat_map f xs ≡ []
@@ -43,7 +33,9 @@ module _ {X Y : Type 0} (f : X → List Y) where
 module _ {X Y : Type 0} (f : ℕ × X → List Y) where
   each_numbered : (xs : List X) (n k : ℕ) (x : X) → flat_map f (enumerate_from n xs) ≡ [] → slice_get xs k ≡ Some x → f (k + n, x) ≡ []
   each_numbered [] n k x none is = absurd (none-some x is)
-  each_numbered (y ∷ ys) n zero x none is = ap (λ m. f (m, x)) (omega arith) ∙ ap (λ z. f (n, z)) (sym (same_some y x is)) ∙ front_none (f (n, y)) (flat_map f (enumerate_from (n + 1) ys)) none
+  each_numbered (y ∷ ys) n zero x none is =
+      let same : x ≡ y = cc in
+      ap (λ m. f (m, x)) (omega arith) ∙ ap (λ z. f (n, z)) same ∙ front_none (f (n, y)) (flat_map f (enumerate_from (n + 1) ys)) none
   each_numbered (y ∷ ys) n (suc k) x none is =
       ap (λ m. f (m, x)) (omega arith) ∙ each_numbered ys (n + 1) k x (back_none (f (n, y)) (flat_map f (enumerate_from (n + 1) ys)) none) is
 
@@ -57,7 +49,7 @@ gains_none : {Y : Type 0} (y : Y) (before after : ℕ) → cond (nat_lt before a
 gains_none y before after none = go (nat_lt before after) refl none
   where
     go : (b : Bool) → nat_lt before after ≡ b → cond b (y ∷ []) [] ≡ [] → after ≤ before
-    go true is none = absurd (some_none y [] none)
+    go true is none = cc
     go false is none = ltb-false before after is
 
 none_gains : {Y : Type 0} (y : Y) (before after : ℕ) → after ≤ before → cond (nat_lt before after) (y ∷ []) [] ≡ []
