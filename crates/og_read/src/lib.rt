@@ -3,10 +3,10 @@
 
 mod games;
 mod laws;
+mod lexemes;
 mod lines;
 mod strategies;
 mod tables;
-mod words;
 
 pub use games::read_game;
 pub use laws::{SmallGames, Strategies, one_game, one_strategy};

@@ -7,7 +7,7 @@ use Rattle.og_grammar.specs.declared.fault.Fault.TheVariants.{Memory, Syntax}
 use Rattle.og_grammar.specs.Rule.{Rule, star}
 use Rattle.og_grammar.specs.Reading.{sees_any, nullable, first, read, with_front}
 use Rattle.og_grammar.specs.Reads.{Reads}
-use Rattle.og_grammar.proofs.Many.{shrinks, many_more, many_fails, many_done}
+use Rattle.og_grammar.proofs.StarReading.{shrinks, many_more, many_fails, many_done}
 
 -- an item was read, and added
 pub each_goes_on : {A : Type 0} (rule : Rule (List A)) (item : Rule A) → nullable item ≡ false → (old ts rest : List Token) (found now : List A) (a : A)

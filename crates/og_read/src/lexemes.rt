@@ -30,9 +30,13 @@ pub(crate) fn name(alloc: Global, text: &[u8], tokens: &mut Tokens<'_>) -> Resul
 }
 
 /// The bytes of a text, without its quotes.
-#[tactic(auto, unfolding(crate::specs::Grammar::quoted))]
-pub(crate) fn quoted(alloc: Global, text: &[u8], tokens: &mut Tokens<'_>) -> Result<List<u8>, Fault>
-    ensures { Reads (spec.quoted text.now) tokens.old result tokens.new }
+#[tactic(auto, unfolding(crate::specs::Grammar::quotation))]
+pub(crate) fn quotation(
+    alloc: Global,
+    text: &[u8],
+    tokens: &mut Tokens<'_>,
+) -> Result<List<u8>, Fault>
+    ensures { Reads (spec.quotation text.now) tokens.old result tokens.new }
 {
     let token = tokens.take(Kind::Text)?;
     let start = token.start as usize + 1;

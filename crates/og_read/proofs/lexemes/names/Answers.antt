@@ -1,9 +1,9 @@
 use Rattle.std.proofs.Common.{true, false, refl}
 use Rattle.std.proofs.lemmas.Result.{err_from_is_err_and}
-use Rattle.og_grammar.proofs.Sets.{sees_one}
-use Rattle.og_grammar.proofs.Loops.{each_goes_on, each_shrinks, each_fails, each_ends}
+use Rattle.og_grammar.proofs.KindSets.{sees_one}
+use Rattle.og_grammar.proofs.ReaderLoops.{each_goes_on, each_shrinks, each_fails, each_ends}
 use Rattle.og_read.specs.Grammar.{names, next_name}
-use Rattle.og_read.proofs.words.names.Goals as goal
+use Rattle.og_read.proofs.lexemes.names.Goals as goal
 
 pub returns-in_err-next_name : goal.returns-in_err-next_name
 unfolding next_name

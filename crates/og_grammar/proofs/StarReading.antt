@@ -6,7 +6,7 @@ use Rattle.og_lex.specs.declared.token.Token.{Token}
 use Rattle.og_lex.specs.declared.token.Kind.{Kind}
 use Rattle.og_grammar.specs.Rule.{Rule, star}
 use Rattle.og_grammar.specs.Reading.{sees_any, nullable, first, Outcome, and_then, with_value, with_front, read_each, read_all, read}
-use Rattle.og_grammar.proofs.Sets.{sees_none}
+use Rattle.og_grammar.proofs.KindSets.{sees_none}
 use Rattle.og_grammar.proofs.Starts.{starts}
 use Rattle.og_grammar.proofs.Sound.{sound}
 use Rattle.og_grammar.proofs.Complete.{begins, seen_length}
