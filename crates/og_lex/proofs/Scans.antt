@@ -24,20 +24,20 @@ pub record IsRead (text : List ℕ) (ts : List Token) (place : ℕ) (rest : List
   pub whole : tokens text ≡ with_tokens ts (scan room place (chars rest))
   pub at : place + length rest ≡ length text
 
-front_none : (r : Result (List Token) LexFault) → r ≡ with_tokens [] r
-front_none (Ok ts) = refl
-front_none (Err fault) = refl
+with_tokens-nil : (r : Result (List Token) LexFault) → r ≡ with_tokens [] r
+with_tokens-nil (Ok ts) = refl
+with_tokens-nil (Err fault) = refl
 
-front_more : (ts : List Token) (t : Token) (r : Result (List Token) LexFault) → with_tokens ts (with_token t r) ≡ with_tokens (ts ++ t ∷ []) r
-front_more ts t (Ok more) = ap Ok (sym (append_assoc ts (t ∷ []) more))
-front_more ts t (Err fault) = refl
+with_tokens-with_token : (ts : List Token) (t : Token) (r : Result (List Token) LexFault) → with_tokens ts (with_token t r) ≡ with_tokens (ts ++ t ∷ []) r
+with_tokens-with_token ts t (Ok more) = ap Ok (sym (append_assoc ts (t ∷ []) more))
+with_tokens-with_token ts t (Err fault) = refl
 
 pub read_start : (text : List ℕ) → IsRead text [] 0 text
 unfolding tokens
 read_start text = record {
   room = length (chars text);
   enough = omega arith;
-  whole = front_none (scan (length (chars text)) 0 (chars text));
+  whole = with_tokens-nil (scan (length (chars text)) 0 (chars text));
   at = omega arith;
 }
 
@@ -96,7 +96,7 @@ read_step text ts place rest after (Some kind) h u v some e =
     record {
       room = s.0;
       enough = omega (arith, s.1, h.enough);
-      whole = h.whole ∙ ap (with_tokens ts) (s.2 ∙ ap (go_on (scan s.0) place (chars rest)) e ∙ ap more end) ∙ front_more ts (record { kind = kind; start = place; end = place + (length rest - length after) }) (scan s.0 (place + (length rest - length after)) (chars after));
+      whole = h.whole ∙ ap (with_tokens ts) (s.2 ∙ ap (go_on (scan s.0) place (chars rest)) e ∙ ap more end) ∙ with_tokens-with_token ts (record { kind = kind; start = place; end = place + (length rest - length after) }) (scan s.0 (place + (length rest - length after)) (chars after));
       at = omega (arith, h.at);
     }
 

@@ -1,5 +1,5 @@
 -- What is read of a token at a place, against the tokens that may stand there.
-use Rattle.std.proofs.Common.{◌≡◌, ◌≢◌, ◌⊎◌, inl, inr, ℕ, ◌^◌, ◌<◌, ◌≤◌, Bool, true, false, cond, List, [], ◌∷◌, ◌++◌, length, refl, sym, ap, ◌∙◌, subst, arith, lit<, append_assoc, length-append}
+use Rattle.std.proofs.Common.{◌≡◌, ◌⊎◌, inl, inr, ℕ, ◌^◌, ◌<◌, ◌≤◌, Bool, true, false, cond, List, [], ◌∷◌, ◌++◌, length, refl, sym, ap, ◌∙◌, subst, arith, lit<, append_assoc, length-append}
 use Rattle.std.specs.Prelude.{Option, Some, None, Result, Ok, Err, ◌==◌, nat_lt}
 use Rattle.std.specs.List.{list_all}
 use Rattle.std.specs.Str.Parse.{digits_value}
@@ -20,7 +20,7 @@ use Rattle.og_lex.proofs.Texts.{run-yes}
 use Rattle.og_lex.proofs.CharacterRuns.{run-behind, behind-stops, front_le_run, run-exact, behind-exact}
 use Rattle.og_lex.proofs.Numbers.{run-all}
 use Rattle.og_lex.proofs.Strip.{strip-is, strip-append, ascii_encodes}
-use Rattle.og_lex.proofs.ByteLen.{length-le-byte_len}
+use Rattle.og_lex.proofs.ByteLen.{length-le-byte_len, some_length}
 use Rattle.og_lex.proofs.FirstCharacter.{letter, line, digit, quote, symbol, sort_from, kind_sort, sort_of, sort_of-ascii, sort_of-starts, sort_of-digit, spelled_sort, spelled_some, word_is_name}
 use Rattle.og_lex.proofs.TableLookups.{word_of-text, word_of-is, mark_short, mark_at-found, mark_at-none}
 
@@ -32,9 +32,6 @@ pub record IsTaken (kind : Kind) (cs rest : List ℕ) : Type 0 where
 
 abbrev pub NoneBegins : List ℕ → Type 0
 NoneBegins cs = (kind : Kind) (front rest : List ℕ) → front ++ rest ≡ cs → Begins kind front rest → ⊥
-
-none_some : {A : Type 0} (x y : A) (o : Option A) → o ≡ None → o ≡ Some y → ⊥
-none_some x y o e f = cc
 
 -- what the reading of a token tells of the characters c ∷ cs
 abbrev pub Tells : ℕ → ℕ → List ℕ → Result (Kind × List ℕ) LexFault → Type 0
@@ -84,14 +81,10 @@ name_told place c cs s =
     }
 
 -- an underscore
-two : (more : List ℕ) → more ≢ [] → 2 ≤ length (95 ∷ more)
-two [] some = absurd (some refl)
-two (c ∷ cs) some = omega arith
-
 under_all : (front : List ℕ) → Spells kinds.Under front → (list_all is_xid_continue front ≡ true) × (2 ≤ length front)
 under_all front s =
     let goes : is_xid_continue 95 ≡ true = is_xid_continue-ascii 95 (lit< tt) in
-    (ap (list_all is_xid_continue) s.1 ∙ and_from (is_xid_continue 95) (list_all is_xid_continue s.0) goes s.3, omega (arith, ap length s.1, two s.0 s.2))
+    (ap (list_all is_xid_continue) s.1 ∙ and_from (is_xid_continue 95) (list_all is_xid_continue s.0) goes s.3, omega (arith, ap length s.1, some_length s.0 s.2))
 
 under_longest : (kind : Kind) (front rest : List ℕ) (c : ℕ) (cs : List ℕ) → sort_of c ≡ line → front ++ rest ≡ c ∷ cs → Begins kind front rest → (length front ≤ length (run is_xid_continue (c ∷ cs))) × (2 ≤ length front)
 under_longest kinds.Under front rest c cs s e b =
@@ -328,7 +321,7 @@ mark_found c cs rest m sort none e =
         begins = record { spelled = refl; may_end = tt };
         longest = λ kind f r g b.
             elim (symbol_kinds kind f r c cs sort (g ∙ sym whole) b) [
-              | inl t ↦ absurd (none_some rest r (separator_of c cs) none t)
+              | inl t ↦ cc
               | inr t ↦ omega (arith, ap length t.1, found.1 t.0 r t.2)
             ];
       };
@@ -340,7 +333,7 @@ symbol_separated place c cs sort d q (Some rest) e o f = separator_found c cs re
 symbol_separated place c cs sort d q None e (Some (m, rest)) f = mark_found c cs rest m sort e f
 symbol_separated place c cs sort d q None e None f = (
   (λ kind front r g b. elim (symbol_kinds kind front r c cs sort g b) [
-    | inl t ↦ none_some r r (separator_of c cs) e t
+    | inl t ↦ cc
     | inr t ↦ mark_at-none (c ∷ cs) r t.0 f t.2
   ]),
   sym (cond-false (is_digit c) (faults.WideNumber place) (cond (c == 34) (faults.OpenText place) (faults.BadChar place)) d ∙ cond-false (c == 34) (faults.OpenText place) (faults.BadChar place) q),
