@@ -272,10 +272,5 @@ Decides-suits g line section =
     Decides-like (same && case) (λ h. record { same_agent = h.0; is_case = h.1 }) (λ s. (s.same_agent, s.is_case))
     (Decides-and same case (bytes_eq-Decides line.agent section.agent) (Decides-case (cases_of g.types line.action) section.choice))
 
-Decides-fits : (g : SmallGame) (sections : List Section) → Decides (fits g sections) (Fits g sections)
+pub Decides-fits : (g : SmallGame) (sections : List Section) → Decides (fits g sections) (Fits g sections)
 Decides-fits g sections = Decides-pointwise (suits g.types) (Suits g) (Decides-suits g) g.lines sections
-
-pub Fits-from_test : (g : SmallGame) (sections : List Section) (answer : Bool) → answer ≡ fits g sections → (answer ≡ true) ↔ Fits g sections
-Fits-from_test g sections answer e =
-    let d = Decides-fits g sections in
-    ((λ t. d.0 (sym e ∙ t)), (λ a. e ∙ d.1 a))

@@ -2,7 +2,7 @@ ghost use Rattle.std.specs.Option.{option_copied, option_map_or};
 ghost use Rattle.std.specs.Prelude.{◌≡◌, ◌↔◌, IsTrue, ◌++◌, [], ◌∷◌, ◌^◌, ◌==◌, IfOk, OnOk, is_some, codes, map, flat_map, length, nat_le, nat_lt};
 ghost use Rattle.std.specs.List.{list_all, list_any};
 ghost use Rattle.og_small.specs.Rules.{same_names, has_name, all_differ, given_names, cases_of, is_output, joint, columns_of, rows_at, is_complete, are_keys_good, is_line_accepted, are_names_good, is_accepted, suits, fits};
-ghost use Rattle.og_small.specs.Accepted.{IsAccepted, Fits};
+ghost use Rattle.og_small.specs.Accepted.{IsAccepted};
 
 use crate::copies::copy_names;
 use crate::{Key, Line, Row, Section, SmallGame, TypeDecl};
@@ -327,14 +327,6 @@ fn suits(types: &[TypeDecl], line: &Line, section: &Section) -> bool
 /// Whether the strategy has one section for each line, in order, and each suits its line: it names the
 /// line's agent and a case of its type.
 pub fn fits(game: &SmallGame, sections: &[Section]) -> bool
-    ensures rules { IsTrue result ↔ Fits game.now sections.now }
-    ensures value { result ≡ fits game.now sections.now }
-{
-    all_suit(game, sections)
-}
-
-/// As `fits`, said as a test.
-fn all_suit(game: &SmallGame, sections: &[Section]) -> bool
     ensures { result ≡ fits game.now sections.now }
 {
     let types = game.types.as_slice();

@@ -1,5 +1,7 @@
 use og_list::List;
-use og_small::{Key, Line, Row, Section, SmallGame, TypeDecl, accepts, fits, report_on};
+use og_small::{
+    Key, Line, Row, Section, SmallGame, TypeDecl, accepts, fits, fitting_strategies, report_on,
+};
 use std::alloc::{AllocError, Global};
 use std::str::SplitWhitespace;
 use std::test::Fail;
@@ -354,4 +356,9 @@ fn accepted_games(rt: HostRuntime) -> Result<(), Fail> {
         assert_eq!(rt; accepts_with(alloc, more)?, want, "with {more}");
     }
     Ok(())
+}
+
+#[test]
+fn laws() {
+    fitting_strategies();
 }
