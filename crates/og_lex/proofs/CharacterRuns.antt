@@ -4,7 +4,7 @@ use Rattle.std.specs.List.{list_all}
 use Rattle.std.proofs.lemmas.Bool.{cases_Bool, and_parts}
 use Rattle.og_lex.specs.Characters.{run, behind}
 use Rattle.og_lex.specs.Spelling.{Stops}
-use Rattle.og_lex.proofs.Texts.{run-yes, run-no, behind-yes, behind-no}
+use Rattle.og_lex.proofs.TextCuts.{run-yes, run-no, behind-yes, behind-no}
 
 -- a list is its longest front that passes, and the rest
 pub run-behind : (p : ℕ → Bool) (cs : List ℕ) → cs ≡ run p cs ++ behind p cs

@@ -9,6 +9,6 @@ pub mod Placed
 pub mod Scans
 pub mod Strip
 pub mod TableLookups
-pub mod Texts
+pub mod TextCuts
 pub mod TokenAt
 pub mod WordBytes

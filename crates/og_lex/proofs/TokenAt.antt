@@ -16,7 +16,7 @@ use Rattle.og_lex.specs.Characters.{is_blank, is_digit, is_hyphen, is_in_text, i
 use Rattle.og_lex.specs.Tables.{mark_text}
 use Rattle.og_lex.specs.LeftToRight.{strip, kind_of, word_of, name_at, under_at, number_of, number_or_fault, number_at, text_or_fault, text_at, separator_end, mark_at, mark_or_fault, separator_or, symbol_at, token_at}
 use Rattle.og_lex.specs.Spelling.{Spells, is_name, Begins, IsTokenAt, fault_of}
-use Rattle.og_lex.proofs.Texts.{run-yes}
+use Rattle.og_lex.proofs.TextCuts.{run-yes}
 use Rattle.og_lex.proofs.CharacterRuns.{run-behind, behind-stops, front_le_run, run-exact, behind-exact}
 use Rattle.og_lex.proofs.Numbers.{run-all}
 use Rattle.og_lex.proofs.Strip.{strip-is, strip-append, ascii_encodes}

@@ -3,10 +3,10 @@
 
 mod class;
 mod fault;
+mod front;
 mod laws;
 mod lexer;
 mod reader;
-mod text;
 mod token;
 
 pub use fault::LexFault;

@@ -5,7 +5,7 @@ ghost use Rattle.og_lex.specs.Characters.{is_blank};
 
 use crate::class::Class;
 use crate::fault::LexFault;
-use crate::text;
+use crate::front;
 use crate::token::{Kind, Mark, Word};
 
 /// Numbers are below this.
@@ -100,7 +100,7 @@ fn mark_among<'a>(marks: &[Mark], text: &'a str) -> Option<(Mark, &'a str)>
     ensures utf8 { IfSome result (λ x. IsUtf8 x.1.now) }
 {
     'marks: for mark in marks {
-        if let Some(rest) = text::strip(text, mark.text()) {
+        if let Some(rest) = front::strip(text, mark.text()) {
             return Some((*mark, rest));
         }
     }
@@ -131,7 +131,7 @@ fn name_at(text: &str) -> (Kind, &str)
     ensures value { name_at (chars text.now) ≡ (result.0, chars result.1.now) }
     ensures utf8 { IsUtf8 result.1.now }
 {
-    let (name, rest) = text::cut(text, Class::NameRest);
+    let (name, rest) = front::cut(text, Class::NameRest);
     let kind = match word_of(name) {
         Some(word) => Kind::Word(word),
         None => Kind::Name,
@@ -147,7 +147,7 @@ fn under_at(text: &str, place: u32) -> Result<(Kind, &str), LexFault>
         (λ fault. under_at place (chars text.now) ≡ Err fault) }
     ensures utf8 { IfOk result (λ x. IsUtf8 x.1.now) }
 {
-    let (name, rest) = text::cut(text, Class::NameRest);
+    let (name, rest) = front::cut(text, Class::NameRest);
     if name.len() > 1 {
         Ok((Kind::Under, rest))
     } else {
@@ -163,7 +163,7 @@ fn number_at(text: &str, place: u32) -> Result<(Kind, &str), LexFault>
         (λ fault. number_at place (chars text.now) ≡ Err fault) }
     ensures utf8 { IfOk result (λ x. IsUtf8 x.1.now) }
 {
-    let (digits, rest) = text::cut(text, Class::Digit);
+    let (digits, rest) = front::cut(text, Class::Digit);
     match digits.parse::<u64>() {
         Ok(value) if value < NUMBER_LIMIT => Ok((Kind::Number(value), rest)),
         _ => Err(LexFault::WideNumber(place)),
@@ -178,7 +178,7 @@ fn text_at(after: &str, place: u32) -> Result<(Kind, &str), LexFault>
         (λ fault. text_at place (chars after.now) ≡ Err fault) }
     ensures utf8 { IfOk result (λ x. IsUtf8 x.1.now) }
 {
-    match text::strip(text::after(after, Class::InText), "\"") {
+    match front::strip(front::after(after, Class::InText), "\"") {
         Some(rest) => Ok((Kind::Text, rest)),
         None => Err(LexFault::OpenText(place)),
     }
@@ -191,11 +191,11 @@ fn separator_end(after: &str) -> Option<&str>
         (λ rest. separator_end (chars after.now) ≡ Some (chars rest.now)) }
     ensures utf8 { IfSome result (λ rest. IsUtf8 rest.now) }
 {
-    let (hyphens, rest) = text::cut(after, Class::Hyphen);
+    let (hyphens, rest) = front::cut(after, Class::Hyphen);
     if hyphens.len() < 3 {
         return None;
     }
-    text::strip(rest, ":")
+    front::strip(rest, ":")
 }
 
 /// The separator or the mark with which the text begins, and the text behind it. The text is the
@@ -231,7 +231,7 @@ fn token_at(text: &str, place: u32) -> Result<(Kind, &str), LexFault>
         (λ fault. token_at place (chars text.now) ≡ Err fault) }
     ensures utf8 { IfOk result (λ x. IsUtf8 x.1.now) }
 {
-    let Some((c, after)) = text::first(text) else {
+    let Some((c, after)) = front::first(text) else {
         return Err(LexFault::BadChar(place));
     };
     if unicode_ident::is_xid_start(c) {
@@ -256,14 +256,14 @@ pub(crate) fn piece_at(text: &str, place: u32) -> Result<(Option<Kind>, &str), L
         (λ fault. piece_at place (chars text.now) ≡ Err fault) }
     ensures utf8 { IfOk result (λ x. IsUtf8 x.1.now) }
 {
-    let Some((c, after)) = text::first(text) else {
+    let Some((c, after)) = front::first(text) else {
         return Err(LexFault::BadChar(place));
     };
     if is_blank(c) {
         return Ok((None, after));
     }
-    if let Some(inside) = text::strip(text, "//") {
-        return Ok((None, text::after(inside, Class::InComment)));
+    if let Some(inside) = front::strip(text, "//") {
+        return Ok((None, front::after(inside, Class::InComment)));
     }
     let (kind, rest) = token_at(text, place)?;
     Ok((Some(kind), rest))

@@ -1,8 +1,8 @@
 use Rattle.std.proofs.Common.{◌≡◌, true, rules}
 use Rattle.std.proofs.lemmas.Str.{IsUtf8-past_char}
 use Rattle.og_lex.specs.Characters.{has}
-use Rattle.og_lex.proofs.Texts.{passed_more}
-use Rattle.og_lex.proofs.text.after.Goals as goal
+use Rattle.og_lex.proofs.TextCuts.{passed_more}
+use Rattle.og_lex.proofs.front.after.Goals as goal
 
 pub run-preserved : goal.run-preserved
 run-preserved c =
