@@ -5,7 +5,7 @@ use Rattle.og_lex.specs.declared.token.Token.{Token}
 use Rattle.og_lex.specs.declared.token.Kind.{Kind}
 use Rattle.og_grammar.specs.Rule.{Rule, one, give, seq, alt, star, map, spells, IsToken, EachInTurn}
 use Rattle.og_grammar.specs.Reading.{apart, kinds_if, sees_any, nullable, first, more, fine, Outcome, and_then, with_value, read_token, read_each, read_all, read}
-use Rattle.og_grammar.proofs.Sets.{sees_none, sees_apart, stops_left, stops_right}
+use Rattle.og_grammar.proofs.KindSets.{sees_none, sees_apart, stops_left, stops_right}
 use Rattle.og_grammar.proofs.Starts.{Starts, starts, starts_each}
 
 token_again : (k : Kind) (test : Token → Bool) (xs rest : List Token) (t : Token) → IsToken k test xs t → read_token k test (xs ++ rest) ≡ Some (t, rest)

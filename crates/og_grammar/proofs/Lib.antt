@@ -1,8 +1,8 @@
-pub mod Sets
-pub mod Starts
-pub mod Sound
 pub mod Complete
-pub mod Whole
-pub mod Many
+pub mod KindSets
+pub mod ReaderLoops
 pub mod SameKinds
-pub mod Loops
+pub mod Sound
+pub mod StarReading
+pub mod Starts
+pub mod Whole

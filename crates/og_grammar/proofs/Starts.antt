@@ -5,7 +5,7 @@ use Rattle.og_lex.specs.declared.token.Kind.{Kind}
 use Rattle.og_grammar.specs.Rule.{Rule, one, give, seq, alt, star, map, same_kind, spells, EachInTurn}
 use Rattle.og_grammar.specs.Reading.{sees, sees_any, nullable, first, kinds_if}
 use Rattle.std.proofs.lemmas.Bool.{or_left, or_right}
-use Rattle.og_grammar.proofs.Sets.{sees_left, sees_right}
+use Rattle.og_grammar.proofs.KindSets.{sees_left, sees_right}
 
 -- The list is empty, and the flag says that it may be; or it begins with one of the kinds, whatever
 -- follows it.

@@ -4,9 +4,9 @@ use Rattle.std.proofs.lemmas.List.{append-nil}
 use Rattle.std.proofs.lemmas.Option.{some_pair_parts, none-some}
 use Rattle.og_lex.specs.declared.token.Token.{Token}
 use Rattle.og_grammar.specs.Rule.{Rule, spells}
-use Rattle.og_grammar.specs.Reading.{Outcome, fine, more, read, ended}
+use Rattle.og_grammar.specs.Reading.{Outcome, fine, more, read, value_at_end}
 use Rattle.og_grammar.specs.Laws.{IsSpelled, IsSound, IsComplete, IsSingle, IsExact}
-use Rattle.og_grammar.proofs.Sets.{sees_none}
+use Rattle.og_grammar.proofs.KindSets.{sees_none}
 use Rattle.og_grammar.proofs.Sound.{sound}
 use Rattle.og_grammar.proofs.Complete.{complete}
 
@@ -36,7 +36,7 @@ pub unspelled_rest : {A : Type 0} (rule : Rule A) → fine rule ≡ true → (ts
 unspelled_rest rule e ts rest a r left b p =
     left (some_pair_parts a b rest [] (sym r ∙ read_to_end rule e ts b p)).1
 
-exact_at : {A : Type 0} (rule : Rule A) → fine rule ≡ true → (ts : List Token) (r : Outcome A) → read rule ts ≡ r → IsSpelled rule ts (ended r)
+exact_at : {A : Type 0} (rule : Rule A) → fine rule ≡ true → (ts : List Token) (r : Outcome A) → read rule ts ≡ r → IsSpelled rule ts (value_at_end r)
 exact_at rule e ts None is = unspelled_none rule e ts is
 exact_at rule e ts (Some (a, [])) is = spelled_to_end rule ts a is
 exact_at rule e ts (Some (a, t ∷ more)) is = unspelled_rest rule e ts (t ∷ more) a is (λ h. cc)

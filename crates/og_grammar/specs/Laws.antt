@@ -16,11 +16,14 @@ IsFront rule ts a rest = (front : List Token) × (ts ≡ front ++ rest) × spell
 
 -- what is read is spelled
 abbrev pub IsSound : {A : Type 0} → Rule A → Type 0
-IsSound {A} rule = (ts rest : List Token) (a : A) → read rule ts ≡ Some (a, rest) → IsFront rule ts a rest
+IsSound {A} rule =
+    (ts rest : List Token) (a : A) → read rule ts ≡ Some (a, rest) → IsFront rule ts a rest
 
 -- what is spelled is read, whatever follows that the rule wouldn't go on with
 abbrev pub IsComplete : {A : Type 0} → Rule A → Type 0
-IsComplete {A} rule = (front rest : List Token) (a : A) → spells rule front a → sees_any (more rule) rest ≡ false → read rule (front ++ rest) ≡ Some (a, rest)
+IsComplete {A} rule =
+    (front rest : List Token) (a : A) → spells rule front a → sees_any (more rule) rest ≡ false
+    → read rule (front ++ rest) ≡ Some (a, rest)
 
 -- a list spells at most one value
 abbrev pub IsSingle : {A : Type 0} → Rule A → Type 0

@@ -1,5 +1,5 @@
 pub mod Rule
-pub mod Words
+pub mod Combinators
 pub mod Reading
 pub mod Laws
 pub mod Reads

@@ -98,7 +98,8 @@ read_token k test (t ∷ ts) = if same_kind t.kind k && test t then Some (t, ts)
 unfoldable pub read_each : {A : Type 0} → List Kind → (List Token → Outcome A) → ℕ → List Token → Outcome (List A)
 read_each ks item zero ts = Some ([], ts)
 read_each ks item (suc n) ts =
-    if sees_any ks ts then and_then (item ts) (λ v rest. with_value (λ vs. v ∷ vs) (read_each ks item n rest)) else Some ([], ts)
+    if sees_any ks ts then and_then (item ts) (λ v rest. with_value (λ vs. v ∷ vs) (read_each ks item n rest))
+    else Some ([], ts)
 
 -- Each turn takes a token, so there are at most as many turns as tokens.
 unfoldable pub read_all : {A : Type 0} → List Kind → (List Token → Outcome A) → List Token → Outcome (List A)
@@ -114,11 +115,11 @@ read (alt f g) = λ ts. if sees_any (first f) ts then read f ts else read g ts
 read (star f) = read_all (first f) (read f)
 read (map h f) = λ ts. with_value h (read f ts)
 
--- the value that the whole list is read as
 -- the value, where no token is left
-abbrev pub ended : {A : Type 0} → Outcome A → Option A
-ended None = None
-ended (Some v) = elim (v.1) [ [] ↦ Some v.0 | t ∷ ts ↦ None ]
+abbrev pub value_at_end : {A : Type 0} → Outcome A → Option A
+value_at_end None = None
+value_at_end (Some v) = elim (v.1) [ [] ↦ Some v.0 | t ∷ ts ↦ None ]
 
+-- the value that the whole list is read as
 abbrev pub read_whole : {A : Type 0} → Rule A → List Token → Option A
-read_whole f ts = ended (read f ts)
+read_whole f ts = value_at_end (read f ts)

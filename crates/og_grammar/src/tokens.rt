@@ -1,6 +1,6 @@
 ghost use Rattle.std.specs.Prelude.{◌≡◌, ◌↔◌, [], length, IsTrue, Err};
 ghost use Rattle.og_grammar.specs.Rule as rule;
-ghost use Rattle.og_grammar.specs.Words.{token};
+ghost use Rattle.og_grammar.specs.Combinators.{token};
 ghost use Rattle.og_grammar.specs.Reading as reading;
 ghost use Rattle.og_grammar.specs.Reads.{Reads};
 

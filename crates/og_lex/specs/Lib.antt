@@ -1,4 +1,4 @@
 pub mod Characters
-pub mod Reading
+pub mod LeftToRight
 pub mod Spelling
 pub mod Tables

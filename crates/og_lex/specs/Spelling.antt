@@ -21,12 +21,17 @@ is_name (c ∷ cs) = is_xid_start c && list_all is_xid_continue cs
 -- These characters write a token of the kind.
 abbrev pub Spells : Kind → List ℕ → Type 0
 Spells kinds.Name front = (is_name front ≡ true) × ((w : Word) → front ≢ word_text w)
-Spells kinds.Under front = (more : List ℕ) × (front ≡ 95 ∷ more) × (more ≢ []) × (list_all is_xid_continue more ≡ true)
-Spells (kinds.Number n) front = (front ≢ []) × (list_all is_digit front ≡ true) × (digits_value 10 front ≡ n) × (n < 2 ^ 63)
-Spells kinds.Text front = (inside : List ℕ) × (front ≡ 34 ∷ inside ++ 34 ∷ []) × (list_all is_in_text inside ≡ true)
+Spells kinds.Under front =
+    (more : List ℕ) × (front ≡ 95 ∷ more) × (more ≢ []) × (list_all is_xid_continue more ≡ true)
+Spells (kinds.Number n) front =
+    (front ≢ []) × (list_all is_digit front ≡ true) × (digits_value 10 front ≡ n) × (n < 2 ^ 63)
+Spells kinds.Text front =
+    (inside : List ℕ) × (front ≡ 34 ∷ inside ++ 34 ∷ []) × (list_all is_in_text inside ≡ true)
 Spells (kinds.Word w) front = front ≡ word_text w
 Spells (kinds.Mark m) front = front ≡ mark_text m
-Spells kinds.Separator front = (hyphens : List ℕ) × (front ≡ 58 ∷ hyphens ++ 58 ∷ []) × (list_all is_hyphen hyphens ≡ true) × (3 ≤ length hyphens)
+Spells kinds.Separator front =
+    (hyphens : List ℕ) × (front ≡ 58 ∷ hyphens ++ 58 ∷ []) × (list_all is_hyphen hyphens ≡ true)
+    × (3 ≤ length hyphens)
 
 -- The characters are at their end, or the first of them does not pass.
 abbrev pub Stops : (ℕ → Bool) → List ℕ → Type 0
@@ -51,14 +56,17 @@ pub record Begins (kind : Kind) (front rest : List ℕ) : Type 0 where
 -- The token that is taken where front and then rest stand: no token that begins there is longer.
 pub record IsTokenAt (kind : Kind) (front rest : List ℕ) : Type 0 where
   pub begins : Begins kind front rest
-  pub longest : (other : Kind) (longer after : List ℕ) → longer ++ after ≡ front ++ rest → Begins other longer after → length longer ≤ length front
+  pub longest : (other : Kind) (longer after : List ℕ) → longer ++ after ≡ front ++ rest
+      → Begins other longer after → length longer ≤ length front
 
 abbrev pub IsBlank : List ℕ → Type 0
 IsBlank front = (c : ℕ) × (front ≡ c ∷ []) × (is_blank c ≡ true)
 
 -- Two slashes and all that stands before the next line feed, or before the end.
 abbrev pub IsComment : List ℕ → List ℕ → Type 0
-IsComment front rest = (inside : List ℕ) × (front ≡ codes "//" ++ inside) × (list_all is_in_comment inside ≡ true) × Stops is_in_comment rest
+IsComment front rest =
+    (inside : List ℕ) × (front ≡ codes "//" ++ inside) × (list_all is_in_comment inside ≡ true)
+    × Stops is_in_comment rest
 
 -- What stands where front and then rest stand: a token of the kind, or without a kind a blank or a
 -- comment. No token begins where a comment does.
@@ -72,14 +80,14 @@ pub record Piece : Type 0 where
   pub front : List ℕ
 
 -- the characters of the pieces in a row
-abbrev pub written : List Piece → List ℕ
-written [] = []
-written (p ∷ ps) = p.front ++ written ps
+abbrev pub characters_of : List Piece → List ℕ
+characters_of [] = []
+characters_of (p ∷ ps) = p.front ++ characters_of ps
 
 -- Each of the pieces stands at its place, where rest follows them all.
 abbrev pub AllStand : List Piece → List ℕ → Type 0
 AllStand [] rest = Unit {0}
-AllStand (p ∷ ps) rest = Stands p.what p.front (written ps ++ rest) × AllStand ps rest
+AllStand (p ∷ ps) rest = Stands p.what p.front (characters_of ps ++ rest) × AllStand ps rest
 
 -- the tokens among the pieces, with the places of their bytes, where the first piece begins at place
 abbrev pub with_piece : Option Kind → ℕ → ℕ → List Token → List Token
@@ -93,7 +101,7 @@ tokens_of place (p ∷ ps) = with_piece p.what place (place + byte_len p.front) 
 -- The text is a row of pieces, and these are its tokens.
 pub record AreTokens (text : List ℕ) (ts : List Token) : Type 0 where
   pub pieces : List Piece
-  pub whole : chars text ≡ written pieces
+  pub whole : chars text ≡ characters_of pieces
   pub each : AllStand pieces []
   pub tokens : ts ≡ tokens_of 0 pieces
 
@@ -104,7 +112,9 @@ NothingStands cs = (what : Option Kind) (front rest : List ℕ) → front ++ res
 -- why, by the character at the place: digits stand there whose value is too great, a double quote
 -- stands there that nothing ends, or no token begins with the character
 abbrev pub fault_of : ℕ → ℕ → LexFault
-fault_of place c = if is_digit c then faults.WideNumber place else (if c == 34 then faults.OpenText place else faults.BadChar place)
+fault_of place c =
+    if is_digit c then faults.WideNumber place
+    else (if c == 34 then faults.OpenText place else faults.BadChar place)
 
 -- Nothing stands at the front of the characters, which is at the place, and the fault says why.
 abbrev pub FaultAt : ℕ → List ℕ → LexFault → Type 0
@@ -115,9 +125,9 @@ FaultAt place (c ∷ cs) fault = NothingStands (c ∷ cs) × (fault ≡ fault_of
 pub record IsFirstFault (text : List ℕ) (fault : LexFault) : Type 0 where
   pub pieces : List Piece
   pub rest : List ℕ
-  pub whole : chars text ≡ written pieces ++ rest
+  pub whole : chars text ≡ characters_of pieces ++ rest
   pub each : AllStand pieces rest
-  pub cause : FaultAt (byte_len (written pieces)) rest fault
+  pub cause : FaultAt (byte_len (characters_of pieces)) rest fault
 
 -- what a text has: its tokens, or its first fault. For want of memory it may go unread.
 abbrev pub Lexed : List ℕ → Result (List Token) LexFault → Type 0

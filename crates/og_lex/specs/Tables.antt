@@ -73,8 +73,19 @@ mark_text marks.Beside = codes "&&&"
 
 -- every reserved word
 unfoldable pub all_words : List Word
-all_words = words.«Type» ∷ words.Fn ∷ words.Game ∷ words.Block ∷ words.Inputs ∷ words.Feedback ∷ words.Operation ∷ words.Outputs ∷ words.Returns ∷ words.DependentDecision ∷ words.Nature ∷ words.ForwardFunction ∷ words.BackwardFunction ∷ words.Identity ∷ words.Library ∷ words.If ∷ words.Then ∷ words.Elif ∷ words.Else ∷ words.End ∷ words.Table ∷ words.And ∷ words.Or ∷ words.Not ∷ words.True ∷ words.False ∷ words.Bool ∷ words.Number ∷ words.Agent ∷ words.Ratio ∷ words.Min ∷ words.Max ∷ words.Clamp ∷ words.Strategy ∷ words.Among ∷ words.Branch ∷ words.Version ∷ []
+all_words =
+    words.«Type» ∷ words.Fn ∷ words.Game ∷ words.Block ∷ words.Inputs ∷ words.Feedback ∷ words.Operation
+    ∷ words.Outputs ∷ words.Returns ∷ words.DependentDecision ∷ words.Nature ∷ words.ForwardFunction
+    ∷ words.BackwardFunction ∷ words.Identity ∷ words.Library ∷ words.If ∷ words.Then ∷ words.Elif
+    ∷ words.Else ∷ words.End ∷ words.Table ∷ words.And ∷ words.Or ∷ words.Not ∷ words.True ∷ words.False
+    ∷ words.Bool ∷ words.Number ∷ words.Agent ∷ words.Ratio ∷ words.Min ∷ words.Max ∷ words.Clamp
+    ∷ words.Strategy ∷ words.Among ∷ words.Branch ∷ words.Version ∷ []
 
 -- every mark, the longest first
 unfoldable pub all_marks : List Mark
-all_marks = marks.Then ∷ marks.Beside ∷ marks.DotDot ∷ marks.Arrow ∷ marks.Equal ∷ marks.Differs ∷ marks.AtMost ∷ marks.AtLeast ∷ marks.LeftBrace ∷ marks.RightBrace ∷ marks.LeftParen ∷ marks.RightParen ∷ marks.LeftBracket ∷ marks.RightBracket ∷ marks.Comma ∷ marks.Semicolon ∷ marks.Colon ∷ marks.Dot ∷ marks.Assign ∷ marks.Less ∷ marks.Greater ∷ marks.Plus ∷ marks.Minus ∷ marks.Star ∷ marks.Slash ∷ []
+all_marks =
+    marks.Then ∷ marks.Beside ∷ marks.DotDot ∷ marks.Arrow ∷ marks.Equal ∷ marks.Differs ∷ marks.AtMost
+    ∷ marks.AtLeast ∷ marks.LeftBrace ∷ marks.RightBrace ∷ marks.LeftParen ∷ marks.RightParen
+    ∷ marks.LeftBracket ∷ marks.RightBracket ∷ marks.Comma ∷ marks.Semicolon ∷ marks.Colon ∷ marks.Dot
+    ∷ marks.Assign ∷ marks.Less ∷ marks.Greater ∷ marks.Plus ∷ marks.Minus ∷ marks.Star ∷ marks.Slash
+    ∷ []

@@ -6,7 +6,7 @@ ghost use Rattle.og_lex.specs.declared.token.Token.{Token};
 ghost use Rattle.og_lex.specs.declared.fault.LexFault.{LexFault};
 ghost use Rattle.og_lex.specs.declared.fault.LexFault.TheVariants.{Memory};
 ghost use Rattle.og_lex.specs.Spelling.{Lexed};
-ghost use Rattle.og_lex.specs.Reading.{tokens};
+ghost use Rattle.og_lex.specs.LeftToRight.{tokens};
 
 /// A text has at most one row of tokens, and if it has a fault it has no tokens and no other first
 /// fault.

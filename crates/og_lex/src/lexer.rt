@@ -1,6 +1,6 @@
 ghost use Rattle.std.specs.Prelude.{All, ◌≡◌, ◌≢◌, ◌≤◌, ◌⊎◌, length, IfErr, IfOk, MatchResult, OnOk};
 ghost use Rattle.og_lex.specs.Spelling.{AreInOrder, IsTokenOf, Lexed};
-ghost use Rattle.og_lex.specs.Reading.{tokens, with_token_of};
+ghost use Rattle.og_lex.specs.LeftToRight.{tokens, with_token_of};
 
 use crate::fault::LexFault;
 use crate::reader;

@@ -3,16 +3,13 @@
 
 mod class;
 mod fault;
+mod front;
 mod laws;
 mod lexer;
 mod reader;
-mod text;
 mod token;
 
 pub use fault::LexFault;
 pub use laws::{one_lexing, some_lexing};
 pub use lexer::{MAX_TEXT, lex};
 pub use token::{Kind, Mark, Token, Word};
-
-#[cfg(test)]
-mod tests;

@@ -1,11 +1,11 @@
 ghost use Rattle.std.specs.Prelude.{◌≡◌, ◌∷◌, [], IfOk, IfSome, MatchOption, MatchResult};
 ghost use Rattle.std.specs.Str.{chars, IsUtf8};
-ghost use Rattle.og_lex.specs.Reading.{word_among, mark_among, word_of, name_at, under_at, number_at, text_at, separator_end, mark_at, symbol_at, token_at, piece_at};
+ghost use Rattle.og_lex.specs.LeftToRight.{word_among, mark_among, word_of, name_at, under_at, number_at, text_at, separator_end, mark_at, symbol_at, token_at, piece_at};
 ghost use Rattle.og_lex.specs.Characters.{is_blank};
 
 use crate::class::Class;
 use crate::fault::LexFault;
-use crate::text;
+use crate::front;
 use crate::token::{Kind, Mark, Word};
 
 /// Numbers are below this.
@@ -100,7 +100,7 @@ fn mark_among<'a>(marks: &[Mark], text: &'a str) -> Option<(Mark, &'a str)>
     ensures utf8 { IfSome result (λ x. IsUtf8 x.1.now) }
 {
     'marks: for mark in marks {
-        if let Some(rest) = text::strip(text, mark.text()) {
+        if let Some(rest) = front::strip(text, mark.text()) {
             return Some((*mark, rest));
         }
     }
@@ -108,7 +108,7 @@ fn mark_among<'a>(marks: &[Mark], text: &'a str) -> Option<(Mark, &'a str)>
 }
 
 /// The reserved word that is written so.
-#[tactic(auto, unfolding(crate::specs::Reading::word_of, crate::specs::Tables::all_words))]
+#[tactic(auto, unfolding(crate::specs::LeftToRight::word_of, crate::specs::Tables::all_words))]
 fn word_of(name: &str) -> Option<Word>
     ensures { result ≡ word_of name.now }
 {
@@ -116,7 +116,7 @@ fn word_of(name: &str) -> Option<Word>
 }
 
 /// The longest mark with which the text begins, and the text behind it.
-#[tactic(auto, unfolding(crate::specs::Reading::mark_at, crate::specs::Tables::all_marks))]
+#[tactic(auto, unfolding(crate::specs::LeftToRight::mark_at, crate::specs::Tables::all_marks))]
 fn mark_at(text: &str) -> Option<(Mark, &str)>
     ensures cases { MatchOption result (mark_at (chars text.now) ≡ None)
         (λ x. mark_at (chars text.now) ≡ Some (x.0, chars x.1.now)) }
@@ -126,12 +126,12 @@ fn mark_at(text: &str) -> Option<(Mark, &str)>
 }
 
 /// The name or the reserved word with which the text begins, and the text behind it.
-#[tactic(auto, using(crate::proofs::Words::word_of_encodes), unfolding(crate::specs::Reading::name_at, crate::specs::Characters::has))]
+#[tactic(auto, using(crate::proofs::WordBytes::word_of_encodes), unfolding(crate::specs::LeftToRight::name_at, crate::specs::Characters::has))]
 fn name_at(text: &str) -> (Kind, &str)
     ensures value { name_at (chars text.now) ≡ (result.0, chars result.1.now) }
     ensures utf8 { IsUtf8 result.1.now }
 {
-    let (name, rest) = text::cut(text, Class::NameRest);
+    let (name, rest) = front::cut(text, Class::NameRest);
     let kind = match word_of(name) {
         Some(word) => Kind::Word(word),
         None => Kind::Name,
@@ -140,14 +140,14 @@ fn name_at(text: &str) -> (Kind, &str)
 }
 
 /// The token that begins with an underscore, and the text behind it.
-#[tactic(auto, unfolding(crate::specs::Reading::under_at, crate::specs::Characters::has, crate::specs::Characters::byte_len))]
+#[tactic(auto, unfolding(crate::specs::LeftToRight::under_at, crate::specs::Characters::has, crate::specs::Characters::byte_len))]
 fn under_at(text: &str, place: u32) -> Result<(Kind, &str), LexFault>
     ensures cases { MatchResult result
         (λ x. under_at place (chars text.now) ≡ Ok (x.0, chars x.1.now))
         (λ fault. under_at place (chars text.now) ≡ Err fault) }
     ensures utf8 { IfOk result (λ x. IsUtf8 x.1.now) }
 {
-    let (name, rest) = text::cut(text, Class::NameRest);
+    let (name, rest) = front::cut(text, Class::NameRest);
     if name.len() > 1 {
         Ok((Kind::Under, rest))
     } else {
@@ -156,14 +156,14 @@ fn under_at(text: &str, place: u32) -> Result<(Kind, &str), LexFault>
 }
 
 /// The number with whose digits the text begins, and the text behind it.
-#[tactic(auto, unfolding(crate::specs::Reading::number_at, crate::specs::Characters::has))]
+#[tactic(auto, unfolding(crate::specs::LeftToRight::number_at, crate::specs::Characters::has))]
 fn number_at(text: &str, place: u32) -> Result<(Kind, &str), LexFault>
     ensures cases { MatchResult result
         (λ x. number_at place (chars text.now) ≡ Ok (x.0, chars x.1.now))
         (λ fault. number_at place (chars text.now) ≡ Err fault) }
     ensures utf8 { IfOk result (λ x. IsUtf8 x.1.now) }
 {
-    let (digits, rest) = text::cut(text, Class::Digit);
+    let (digits, rest) = front::cut(text, Class::Digit);
     match digits.parse::<u64>() {
         Ok(value) if value < NUMBER_LIMIT => Ok((Kind::Number(value), rest)),
         _ => Err(LexFault::WideNumber(place)),
@@ -171,36 +171,36 @@ fn number_at(text: &str, place: u32) -> Result<(Kind, &str), LexFault>
 }
 
 /// The text between double quotes, the first of which stands just before, and the text behind it.
-#[tactic(auto, unfolding(crate::specs::Reading::text_at, crate::specs::Characters::has))]
+#[tactic(auto, unfolding(crate::specs::LeftToRight::text_at, crate::specs::Characters::has))]
 fn text_at(after: &str, place: u32) -> Result<(Kind, &str), LexFault>
     ensures cases { MatchResult result
         (λ x. text_at place (chars after.now) ≡ Ok (x.0, chars x.1.now))
         (λ fault. text_at place (chars after.now) ≡ Err fault) }
     ensures utf8 { IfOk result (λ x. IsUtf8 x.1.now) }
 {
-    match text::strip(text::after(after, Class::InText), "\"") {
+    match front::strip(front::after(after, Class::InText), "\"") {
         Some(rest) => Ok((Kind::Text, rest)),
         None => Err(LexFault::OpenText(place)),
     }
 }
 
 /// What follows a separator whose first colon stands just before the text.
-#[tactic(auto, unfolding(crate::specs::Reading::separator_end, crate::specs::Characters::has, crate::specs::Characters::byte_len))]
+#[tactic(auto, unfolding(crate::specs::LeftToRight::separator_end, crate::specs::Characters::has, crate::specs::Characters::byte_len))]
 fn separator_end(after: &str) -> Option<&str>
     ensures cases { MatchOption result (separator_end (chars after.now) ≡ None)
         (λ rest. separator_end (chars after.now) ≡ Some (chars rest.now)) }
     ensures utf8 { IfSome result (λ rest. IsUtf8 rest.now) }
 {
-    let (hyphens, rest) = text::cut(after, Class::Hyphen);
+    let (hyphens, rest) = front::cut(after, Class::Hyphen);
     if hyphens.len() < 3 {
         return None;
     }
-    text::strip(rest, ":")
+    front::strip(rest, ":")
 }
 
 /// The separator or the mark with which the text begins, and the text behind it. The text is the
 /// character and then `after`.
-#[tactic(auto, unfolding(crate::specs::Reading::symbol_at))]
+#[tactic(auto, unfolding(crate::specs::LeftToRight::symbol_at))]
 fn symbol_at<'a>(
     text: &'a str,
     c: char,
@@ -224,14 +224,14 @@ fn symbol_at<'a>(
 }
 
 /// The token at the front of the text, which stands at the place, and the text behind it.
-#[tactic(auto, unfolding(crate::specs::Reading::token_at))]
+#[tactic(auto, unfolding(crate::specs::LeftToRight::token_at))]
 fn token_at(text: &str, place: u32) -> Result<(Kind, &str), LexFault>
     ensures cases { MatchResult result
         (λ x. token_at place (chars text.now) ≡ Ok (x.0, chars x.1.now))
         (λ fault. token_at place (chars text.now) ≡ Err fault) }
     ensures utf8 { IfOk result (λ x. IsUtf8 x.1.now) }
 {
-    let Some((c, after)) = text::first(text) else {
+    let Some((c, after)) = front::first(text) else {
         return Err(LexFault::BadChar(place));
     };
     if unicode_ident::is_xid_start(c) {
@@ -249,21 +249,21 @@ fn token_at(text: &str, place: u32) -> Result<(Kind, &str), LexFault>
 
 /// What stands at the front of the text, which stands at the place: a token of the kind, or a blank
 /// or a comment. With it comes the text behind it.
-#[tactic(auto, unfolding(crate::specs::Reading::piece_at, crate::specs::Characters::has))]
+#[tactic(auto, unfolding(crate::specs::LeftToRight::piece_at, crate::specs::Characters::has))]
 pub(crate) fn piece_at(text: &str, place: u32) -> Result<(Option<Kind>, &str), LexFault>
     ensures cases { MatchResult result
         (λ x. piece_at place (chars text.now) ≡ Ok (x.0, chars x.1.now))
         (λ fault. piece_at place (chars text.now) ≡ Err fault) }
     ensures utf8 { IfOk result (λ x. IsUtf8 x.1.now) }
 {
-    let Some((c, after)) = text::first(text) else {
+    let Some((c, after)) = front::first(text) else {
         return Err(LexFault::BadChar(place));
     };
     if is_blank(c) {
         return Ok((None, after));
     }
-    if let Some(inside) = text::strip(text, "//") {
-        return Ok((None, text::after(inside, Class::InComment)));
+    if let Some(inside) = front::strip(text, "//") {
+        return Ok((None, front::after(inside, Class::InComment)));
     }
     let (kind, rest) = token_at(text, place)?;
     Ok((Some(kind), rest))

@@ -14,7 +14,7 @@ use Rattle.og_small.specs.declared.tree.Key.{Key}
 use Rattle.og_small.specs.declared.tree.Row.{Row}
 use Rattle.og_small.specs.declared.tree.Section.{Section}
 use Rattle.og_grammar.specs.Rule.{Rule, one, seq, star, map}
-use Rattle.og_grammar.specs.Words.{token, word, mark, behind, before, within, opt}
+use Rattle.og_grammar.specs.Combinators.{token, word, mark, behind, before, within, opt}
 
 -- ---- words of the text
 
@@ -22,12 +22,12 @@ use Rattle.og_grammar.specs.Words.{token, word, mark, behind, before, within, op
 abbrev pub part : List ℕ → ℕ → ℕ → List ℕ
 part text start end = take (end - start) (drop start text)
 
--- what a token stands for, and for a text that without its quotes
+-- the bytes of a token, and those of a text without its quotes
 abbrev pub spelling : List ℕ → Token → List ℕ
 spelling text t = part text t.start t.end
 
-abbrev pub unquoted : List ℕ → Token → List ℕ
-unquoted text t = part text (t.start + 1) (t.end - 1)
+abbrev pub inside_quotes : List ℕ → Token → List ℕ
+inside_quotes text t = part text (t.start + 1) (t.end - 1)
 
 abbrev pub value : Kind → ℕ
 value (k.Number n) = n
@@ -39,8 +39,8 @@ is_main text t = bytes_eq (spelling text t) (codes "main")
 unfoldable pub name : List ℕ → Rule (List ℕ)
 name text = map (spelling text) (token k.Name)
 
-unfoldable pub quoted : List ℕ → Rule (List ℕ)
-quoted text = map (unquoted text) (token k.Text)
+unfoldable pub quotation : List ℕ → Rule (List ℕ)
+quotation text = map (inside_quotes text) (token k.Text)
 
 unfoldable pub number : Rule ℕ
 number = map (λ t. value t.kind) (token (k.Number 0))
@@ -95,7 +95,8 @@ outcome text = within (mark LeftParen) (names text) (mark RightParen)
 -- outcome "->" Number ";"
 unfoldable pub row : List ℕ → Rule Row
 row text =
-    map (λ v. record { cases = v.0; pay = v.1 }) (seq (outcome text) (behind (mark Arrow) (before number (mark Semicolon))))
+    map (λ v. record { cases = v.0; pay = v.1 })
+    (seq (outcome text) (behind (mark Arrow) (before number (mark Semicolon))))
 
 unfoldable pub rows : List ℕ → Rule (List Row)
 rows text = star (row text)
@@ -117,7 +118,8 @@ empty_field keyword = map (λ _. tt) (opt (behind (word keyword) (seq (mark Colo
 -- "dependentDecision" Text "[" "]" Name, for the agent and the type
 unfoldable pub decision : List ℕ → Rule (List ℕ × List ℕ)
 decision text =
-    behind (word w.DependentDecision) (seq (quoted text) (behind (mark LeftBracket) (behind (mark RightBracket) (name text))))
+    behind (word w.DependentDecision)
+    (seq (quotation text) (behind (mark LeftBracket) (behind (mark RightBracket) (name text))))
 
 -- "operation" ":" decision ";"
 unfoldable pub operation : List ℕ → Rule (List ℕ × List ℕ)
@@ -138,7 +140,8 @@ line_of v = record { agent = v.0.0; action = v.0.1; output = v.1.0; keys = v.1.1
 unfoldable pub line : List ℕ → Rule Line
 line text =
     map line_of
-    (behind (empty_field w.Inputs) (behind (empty_field w.Feedback) (seq (operation text) (seq (output text) (payment text)))))
+    (behind (empty_field w.Inputs)
+    (behind (empty_field w.Feedback) (seq (operation text) (seq (output text) (payment text)))))
 
 unfoldable pub lines : List ℕ → Rule (List Line)
 lines text = star (line text)
@@ -168,7 +171,8 @@ title text = behind (word w.Game) (before (main text) (mark Assign))
 -- types title block ";"
 unfoldable pub game : List ℕ → Rule SmallGame
 game text =
-    map (λ v. record { types = v.0; lines = v.1 }) (seq (types text) (behind (title text) (before (block text) (mark Semicolon))))
+    map (λ v. record { types = v.0; lines = v.1 })
+    (seq (types text) (behind (title text) (before (block text) (mark Semicolon))))
 
 -- ---- strategies
 
@@ -181,7 +185,7 @@ choice text =
 unfoldable pub section : List ℕ → Rule Section
 section text =
     map (λ v. record { agent = v.0; choice = v.1 })
-    (behind (word w.Strategy) (seq (quoted text) (within (mark LeftBrace) (choice text) (mark RightBrace))))
+    (behind (word w.Strategy) (seq (quotation text) (within (mark LeftBrace) (choice text) (mark RightBrace))))
 
 unfoldable pub strategy : List ℕ → Rule (List Section)
 strategy text = star (section text)

@@ -3,8 +3,8 @@ ghost use Rattle.og_grammar.specs.Reads.{Reads};
 ghost use Rattle.og_read.specs.Grammar as spec;
 ghost use Rattle.og_read.specs.Spelled.{FindsGame};
 
+use crate::lexemes::{main_name, name, names};
 use crate::lines::{empty_field, lines};
-use crate::words::{main_name, name, names};
 use og_grammar::{Fault, Tokens};
 use og_lex::{Kind, Mark, Token, Word};
 use og_list::List;

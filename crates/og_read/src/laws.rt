@@ -17,7 +17,7 @@ impl Language for SmallGames {
     type Value = SmallGame;
 
     ghost use Rattle.og_read.specs.Grammar.{game};
-    ghost use Rattle.og_read.specs.Fine.{game_fine};
+    ghost use Rattle.og_read.specs.laws.Fine.{game_fine};
 
     ghost rule = { game };
 
@@ -31,7 +31,7 @@ impl Language for Strategies {
     type Value = List<Section>;
 
     ghost use Rattle.og_read.specs.Grammar.{strategy};
-    ghost use Rattle.og_read.specs.Fine.{strategy_fine};
+    ghost use Rattle.og_read.specs.laws.Fine.{strategy_fine};
 
     ghost rule = { strategy };
 

@@ -3,14 +3,11 @@
 
 mod games;
 mod laws;
+mod lexemes;
 mod lines;
 mod strategies;
 mod tables;
-mod words;
 
 pub use games::read_game;
 pub use laws::{SmallGames, Strategies, one_game, one_strategy};
 pub use strategies::read_strategy;
-
-#[cfg(test)]
-mod tests;

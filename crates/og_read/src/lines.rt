@@ -3,8 +3,8 @@ ghost use Rattle.og_grammar.specs.Reading.{first, sees_any};
 ghost use Rattle.og_grammar.specs.Reads.{Reads};
 ghost use Rattle.og_read.specs.Grammar as spec;
 
+use crate::lexemes::{name, quotation};
 use crate::tables::table;
-use crate::words::{name, quoted};
 use og_grammar::{Fault, Tokens};
 use og_lex::{Kind, Mark, Word};
 use og_list::List;
@@ -34,7 +34,7 @@ fn decision(
     ensures { Reads (spec.decision text.now) tokens.old result tokens.new }
 {
     tokens.take(Kind::Word(Word::DependentDecision))?;
-    let agent = quoted(alloc, text, tokens)?;
+    let agent = quotation(alloc, text, tokens)?;
     tokens.take(Kind::Mark(Mark::LeftBracket))?;
     tokens.take(Kind::Mark(Mark::RightBracket))?;
     let action = name(alloc, text, tokens)?;

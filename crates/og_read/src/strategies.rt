@@ -3,7 +3,7 @@ ghost use Rattle.og_grammar.specs.Reads.{Reads};
 ghost use Rattle.og_read.specs.Grammar as spec;
 ghost use Rattle.og_read.specs.Spelled.{FindsStrategy};
 
-use crate::words::{name, quoted};
+use crate::lexemes::{name, quotation};
 use og_grammar::{Fault, Tokens};
 use og_lex::{Kind, Mark, Token, Word};
 use og_list::List;
@@ -29,7 +29,7 @@ fn section(alloc: Global, text: &[u8], tokens: &mut Tokens<'_>) -> Result<Sectio
     ensures { Reads (spec.section text.now) tokens.old result tokens.new }
 {
     tokens.take(Kind::Word(Word::Strategy))?;
-    let agent = quoted(alloc, text, tokens)?;
+    let agent = quotation(alloc, text, tokens)?;
     tokens.take(Kind::Mark(Mark::LeftBrace))?;
     let choice = choice(alloc, text, tokens)?;
     tokens.take(Kind::Mark(Mark::RightBrace))?;

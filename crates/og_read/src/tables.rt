@@ -1,7 +1,7 @@
 ghost use Rattle.og_grammar.specs.Reads.{Reads};
 ghost use Rattle.og_read.specs.Grammar as spec;
 
-use crate::words::{name, names, number};
+use crate::lexemes::{name, names, number};
 use og_grammar::{Fault, Tokens};
 use og_lex::{Kind, Mark, Word};
 use og_list::List;

@@ -1,2 +1,3 @@
-pub mod Equilibria
-pub mod Walks
+pub mod AcceptedLemmas
+pub mod EquilibriumLemmas
+pub mod MeaningLemmas

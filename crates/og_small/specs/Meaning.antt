@@ -14,14 +14,16 @@ use Rattle.og_small.specs.Rules.{cases_of}
 -- A joint choice is a case for each line, in order.
 
 -- what the line with this output chooses
-abbrev pub chosen : List Line → List (List ℕ) → List ℕ → List ℕ
-chosen [] choices output = []
-chosen (line ∷ lines) [] output = []
-chosen (line ∷ lines) (choice ∷ choices) output = if bytes_eq line.output output then choice else chosen lines choices output
+abbrev pub choice_at : List Line → List (List ℕ) → List ℕ → List ℕ
+choice_at [] choices output = []
+choice_at (line ∷ lines) [] output = []
+choice_at (line ∷ lines) (choice ∷ choices) output =
+    if bytes_eq line.output output then choice else choice_at lines choices output
 
 -- the row's cases are what is chosen at the keys
 abbrev pub is_played : List Line → List (List ℕ) → List Key → Row → Bool
-is_played lines choices keys row = pointwise (λ key name. bytes_eq (chosen lines choices key.output) name) keys row.cases
+is_played lines choices keys row =
+    pointwise (λ key name. bytes_eq (choice_at lines choices key.output) name) keys row.cases
 
 -- the number in the line's table at the joint choice
 abbrev pub pay : List Line → List (List ℕ) → Line → ℕ
@@ -29,19 +31,23 @@ pay lines choices line = option_map_or (λ row. row.pay) (find (is_played lines 
 
 -- the sum of the payments of the agent's lines
 abbrev pub total : List Line → List (List ℕ) → List ℕ → ℕ
-total lines choices agent = sum_by (λ line. if bytes_eq line.agent agent then pay lines choices line else 0) lines
+total lines choices agent =
+    sum_by (λ line. if bytes_eq line.agent agent then pay lines choices line else 0) lines
 
 -- the deviation to this action at this line, if it gains
 abbrev pub deviation : List Line → List (List ℕ) → ℕ → Line → List ℕ → List Deviation
 deviation lines choices number line action =
     let before = total lines choices line.agent in
     let after = total lines (slice_set choices (number - 1) action) line.agent in
-    if nat_lt before after then record { line = number; agent = line.agent; action = action; gain = after - before } ∷ [] else []
+    if nat_lt before after
+    then record { line = number; agent = line.agent; action = action; gain = after - before } ∷ []
+    else []
 
 -- the deviations at a line with its number, by case
 abbrev pub deviations_at : SmallGame → List (List ℕ) → ℕ × Line → List Deviation
 deviations_at g choices place =
-    flat_map (deviation g.lines choices place.0 place.1) (option_map_or (λ cases. cases) (cases_of g.types place.1.action) [])
+    flat_map (deviation g.lines choices place.0 place.1)
+    (option_map_or (λ cases. cases) (cases_of g.types place.1.action) [])
 
 -- all deviations, by line and then by case
 abbrev pub deviations : SmallGame → List (List ℕ) → List Deviation

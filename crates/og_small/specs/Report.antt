@@ -8,22 +8,23 @@ use Rattle.og_small.specs.Meaning.{total, deviations, agents}
 abbrev pub line_of : List ℕ → List ℕ
 line_of bytes = bytes ++ 10 ∷ []
 
-abbrev pub quoted : List ℕ → List ℕ
-quoted bytes = 34 ∷ (bytes ++ 34 ∷ [])
+abbrev pub in_quotes : List ℕ → List ℕ
+in_quotes bytes = 34 ∷ (bytes ++ 34 ∷ [])
 
 -- how many deviations there are
-unfoldable pub counted : ℕ → List ℕ
-counted count = line_of (codes "deviations " ++ decimal count)
+unfoldable pub count_line : ℕ → List ℕ
+count_line count = line_of (codes "deviations " ++ decimal count)
 
 abbrev pub verdict : ℕ → List ℕ
-verdict count = if count == 0 then line_of (codes "equilibrium") else counted count
+verdict count = if count == 0 then line_of (codes "equilibrium") else count_line count
 
 unfoldable pub value_line : SmallGame → List (List ℕ) → List ℕ → List ℕ
-value_line g choices agent = line_of (codes "value " ++ quoted agent ++ codes " = " ++ decimal (total g.lines choices agent))
+value_line g choices agent =
+    line_of (codes "value " ++ in_quotes agent ++ codes " = " ++ decimal (total g.lines choices agent))
 
 -- who deviates, and where
 unfoldable pub decision : Deviation → List ℕ
-decision d = codes "decision " ++ decimal d.line ++ codes " " ++ quoted d.agent
+decision d = codes "decision " ++ decimal d.line ++ codes " " ++ in_quotes d.agent
 
 -- what the deviation gains, and the end of the line
 unfoldable pub gain : Deviation → List ℕ

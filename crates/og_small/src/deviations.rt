@@ -33,7 +33,7 @@ pub(crate) fn choices_of(alloc: Global, sections: &[Section]) -> Result<List<Lis
 }
 
 /// The joint choice with another action at one line.
-fn changed(
+fn with_action(
     alloc: Global,
     choices: &[List<u8>],
     at: usize,
@@ -58,9 +58,10 @@ fn deviation_by(
     action: &[u8],
 ) -> Result<Option<Deviation>, AllocError>
     requires { 0 < number }
-    ensures { IfOk result (λ found. option_to_list found ≡ deviation lines.now choices.now number line.now action.now) }
+    ensures { IfOk result
+        (λ found. option_to_list found ≡ deviation lines.now choices.now number line.now action.now) }
 {
-    let other = changed(alloc, choices, (number - 1) as usize, action)?;
+    let other = with_action(alloc, choices, (number - 1) as usize, action)?;
     let before = total(lines, choices, line.agent.as_slice());
     let after = total(lines, other.as_slice(), line.agent.as_slice());
     if before >= after {
@@ -85,7 +86,8 @@ fn add_deviations(
     cases: &[List<u8>],
 ) -> Result<(), AllocError>
     requires { 0 < number }
-    ensures { OnOk result (found.new ≡ found.old ++ flat_map (deviation lines.now choices.now number line.now) cases.now) }
+    ensures { OnOk result
+        (found.new ≡ found.old ++ flat_map (deviation lines.now choices.now number line.now) cases.now) }
 {
     'cases: for action in cases {
         if let Some(one) = deviation_by(alloc, lines, choices, number, line, action.as_slice())? {

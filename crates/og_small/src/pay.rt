@@ -1,12 +1,12 @@
 ghost use Rattle.std.specs.Prelude.{◌≡◌};
-ghost use Rattle.og_small.specs.Meaning.{chosen, is_played, pay, total};
+ghost use Rattle.og_small.specs.Meaning.{choice_at, is_played, pay, total};
 
 use crate::{Key, Line, Row};
 use og_list::List;
 
 /// What the line with this output chooses.
-fn chosen<'a>(lines: &[Line], choices: &'a [List<u8>], output: &[u8]) -> &'a [u8]
-    ensures { result.now ≡ chosen lines.now choices.now output.now }
+fn choice_at<'a>(lines: &[Line], choices: &'a [List<u8>], output: &[u8]) -> &'a [u8]
+    ensures { result.now ≡ choice_at lines.now choices.now output.now }
 {
     let count = lines.len().min(choices.len());
     'lines: for i in 0..count {
@@ -29,7 +29,7 @@ fn is_played(lines: &[Line], choices: &[List<u8>], keys: &[Key], row: &Row) -> b
     'keys: for i in 0..keys.len() {
         let key = &keys[i];
         let name = &cases[i];
-        if chosen(lines, choices, key.output.as_slice()) != name.as_slice() {
+        if choice_at(lines, choices, key.output.as_slice()) != name.as_slice() {
             return false;
         }
     }

@@ -1,7 +1,7 @@
 ghost use Rattle.std.specs.Prelude.{◌≡◌, ◌++◌, [], ◌∷◌, IfOk, OnOk, IsTrue, ◌↔◌, decimal, codes, flat_map};
 ghost use Rattle.og_small.specs.Meaning.{choices_of, deviations, agents, has_agent};
 ghost use Rattle.og_small.specs.Equilibrium.{IsEquilibrium};
-ghost use Rattle.og_small.specs.Report.{quoted, counted, verdict, value_line, decision, gain, deviation_line, report};
+ghost use Rattle.og_small.specs.Report.{in_quotes, count_line, verdict, value_line, decision, gain, deviation_line, report};
 
 use crate::deviations::{Deviation, choices_of, find_deviations};
 use crate::pay::total;
@@ -28,7 +28,7 @@ fn push_number(out: &mut List<u8>, alloc: Global, number: u128) -> Result<(), Al
 
 /// Adds a text in double quotes.
 fn push_quoted(out: &mut List<u8>, text: &[u8]) -> Result<(), AllocError>
-    ensures { OnOk result (out.new ≡ out.old ++ quoted text.now) }
+    ensures { OnOk result (out.new ≡ out.old ++ in_quotes text.now) }
 {
     out.extend_from_slice(b"\"")?;
     out.extend_from_slice(text)?;
@@ -36,9 +36,9 @@ fn push_quoted(out: &mut List<u8>, text: &[u8]) -> Result<(), AllocError>
 }
 
 /// Adds how many deviations there are.
-#[tactic(auto, unfolding(crate::specs::Report::counted))]
+#[tactic(auto, unfolding(crate::specs::Report::count_line))]
 fn push_count(out: &mut List<u8>, alloc: Global, count: u128) -> Result<(), AllocError>
-    ensures { OnOk result (out.new ≡ out.old ++ counted count) }
+    ensures { OnOk result (out.new ≡ out.old ++ count_line count) }
 {
     out.extend_from_slice(b"deviations ")?;
     push_number(out, alloc, count)?;
@@ -116,14 +116,15 @@ fn has_agent(lines: &[Line], agent: &[u8]) -> bool
 }
 
 /// Adds the line of each agent's total, in order of first appearance.
-#[tactic(auto, using(crate::proofs::Walks::agents_new, crate::proofs::Walks::agents_known))]
+#[tactic(auto, using(crate::proofs::MeaningLemmas::agents_new, crate::proofs::MeaningLemmas::agents_known))]
 fn push_values(
     out: &mut List<u8>,
     alloc: Global,
     game: &SmallGame,
     choices: &[List<u8>],
 ) -> Result<(), AllocError>
-    ensures { OnOk result (out.new ≡ out.old ++ flat_map (value_line game.now choices.now) (agents game.now.lines)) }
+    ensures { OnOk result
+        (out.new ≡ out.old ++ flat_map (value_line game.now choices.now) (agents game.now.lines)) }
 {
     let lines = game.lines.as_slice();
     'lines: for i in 0..lines.len() {
@@ -161,15 +162,17 @@ fn push_deviations(
 /// decision 1 "player1" at () play Defect gain 2
 /// decision 2 "player2" at () play Defect gain 2
 /// ```
-#[tactic(auto, using(crate::proofs::Equilibria::is_equilibrium, crate::proofs::Equilibria::no_deviation))]
+#[tactic(auto, using(crate::proofs::EquilibriumLemmas::is_equilibrium, crate::proofs::EquilibriumLemmas::no_deviation))]
 pub fn report_on(
     alloc: Global,
     game: &SmallGame,
     sections: &[Section],
 ) -> Result<Report, AllocError>
     ensures text { IfOk result (λ made. made.text ≡ report game.now (choices_of sections.now)) }
-    ensures verdict { IfOk result (λ made. IsTrue made.is_equilibrium ↔ (deviations game.now (choices_of sections.now) ≡ [])) }
-    ensures equilibrium { IfOk result (λ made. IsTrue made.is_equilibrium ↔ IsEquilibrium game.now (choices_of sections.now)) }
+    ensures verdict { IfOk result
+        (λ made. IsTrue made.is_equilibrium ↔ (deviations game.now (choices_of sections.now) ≡ [])) }
+    ensures equilibrium { IfOk result
+        (λ made. IsTrue made.is_equilibrium ↔ IsEquilibrium game.now (choices_of sections.now)) }
 {
     let choices = choices_of(alloc, sections)?;
     let deviations = find_deviations(alloc, game, choices.as_slice())?;

@@ -1,8 +1,8 @@
-ghost use Rattle.std.specs.Prelude.{◌≡◌};
 ghost use Rattle.std.specs.Option.{option_copied, option_map_or};
-ghost use Rattle.std.specs.Prelude.{◌++◌, [], ◌∷◌, ◌^◌, ◌==◌, IfOk, OnOk, is_some, codes, map, flat_map, length, nat_le, nat_lt};
+ghost use Rattle.std.specs.Prelude.{◌≡◌, ◌↔◌, IsTrue, ◌++◌, [], ◌∷◌, ◌^◌, ◌==◌, IfOk, OnOk, is_some, codes, map, flat_map, length, nat_le, nat_lt};
 ghost use Rattle.std.specs.List.{list_all, list_any};
 ghost use Rattle.og_small.specs.Rules.{same_names, has_name, all_differ, given_names, cases_of, is_output, joint, columns_of, rows_at, is_complete, are_keys_good, is_line_accepted, are_names_good, is_accepted, suits, fits};
+ghost use Rattle.og_small.specs.Accepted.{IsAccepted};
 
 use crate::copies::copy_names;
 use crate::{Key, Line, Row, Section, SmallGame, TypeDecl};
@@ -102,7 +102,7 @@ fn given_names(alloc: Global, game: &SmallGame) -> Result<List<List<u8>>, AllocE
 }
 
 /// The name before the names.
-fn prepended(alloc: Global, name: &[u8], names: &[List<u8>]) -> Result<List<List<u8>>, AllocError>
+fn prepend(alloc: Global, name: &[u8], names: &[List<u8>]) -> Result<List<List<u8>>, AllocError>
     ensures { IfOk result (λ made. made ≡ name.now ∷ names.now) }
 {
     let mut made = List::new(alloc);
@@ -112,7 +112,7 @@ fn prepended(alloc: Global, name: &[u8], names: &[List<u8>]) -> Result<List<List
 }
 
 /// Adds each of the lists with the name before it.
-fn add_prepended(
+fn prepend_to_each(
     all: &mut List<List<List<u8>>>,
     alloc: Global,
     name: &[u8],
@@ -121,13 +121,13 @@ fn add_prepended(
     ensures { OnOk result (all.new ≡ all.old ++ map (λ names. name.now ∷ names) rest.now) }
 {
     'rest: for names in rest {
-        all.add(prepended(alloc, name, names.as_slice())?)?;
+        all.add(prepend(alloc, name, names.as_slice())?)?;
     }
     Ok(())
 }
 
 /// Each name of the column before each of the lists.
-fn crossed(
+fn cross(
     alloc: Global,
     column: &[List<u8>],
     rest: &[List<List<u8>>],
@@ -136,7 +136,7 @@ fn crossed(
 {
     let mut all = List::new(alloc);
     'column: for name in column {
-        add_prepended(&mut all, alloc, name.as_slice(), rest)?;
+        prepend_to_each(&mut all, alloc, name.as_slice(), rest)?;
     }
     Ok(all)
 }
@@ -151,7 +151,7 @@ fn joint(alloc: Global, columns: &[List<List<u8>>]) -> Result<List<List<List<u8>
     'columns: while left > 0 {
         left -= 1;
         let column = &columns[left];
-        all = crossed(alloc, column.as_slice(), all.as_slice())?;
+        all = cross(alloc, column.as_slice(), all.as_slice())?;
     }
     Ok(all)
 }
@@ -289,6 +289,17 @@ fn are_types_small(types: &[TypeDecl]) -> bool
 /// below 2^63. With two cases `C` and `D` and the keys `x` and `y` the joint keys are `(C, C)`,
 /// `(C, D)`, `(D, C)` and `(D, D)`.
 pub fn accepts(alloc: Global, game: &SmallGame) -> Result<bool, AllocError>
+    // By the rules, one by one.
+    ensures rules { IfOk result (λ good. IsTrue good ↔ IsAccepted game.now) }
+
+    // The same as a test that computes.
+    ensures value { IfOk result (λ good. good ≡ is_accepted game.now) }
+{
+    is_accepted(alloc, game)
+}
+
+/// As `accepts`, said as a test.
+fn is_accepted(alloc: Global, game: &SmallGame) -> Result<bool, AllocError>
     ensures { IfOk result (λ good. good ≡ is_accepted game.now) }
 {
     if game.lines.len() > 4 || !are_types_small(game.types.as_slice()) {

@@ -1,5 +1,5 @@
-use Rattle.og_lex.proofs.Single.{one-lexing}
+use Rattle.og_lex.proofs.OneLexing.{one_lexing}
 use Rattle.og_lex.proofs.laws.one_lexing.Goals as goal
 
 pub returns : goal.returns
-returns c = one-lexing
+returns c = one_lexing

@@ -1,5 +1,5 @@
 use Rattle.og_lex.proofs.Outcomes.{exact_from, lexed_exact}
-use Rattle.og_lex.proofs.Placed.{order-from, each-from}
+use Rattle.og_lex.proofs.Placed.{order_from, each_from}
 use Rattle.og_lex.proofs.lexer.lex.Goals as goal
 
 pub returns-clause-exact : goal.returns-clause-exact
@@ -9,7 +9,7 @@ pub returns-clause-lexed : goal.returns-clause-lexed
 returns-clause-lexed c = lexed_exact c.args.text.now c.read.result (exact_from c.args.text.now c.read.result c.read.ensures)
 
 pub returns-clause-order : goal.returns-clause-order
-returns-clause-order c = order-from c.args.text.now c.read.result c.utf8.text (lexed_exact c.args.text.now c.read.result (exact_from c.args.text.now c.read.result c.read.ensures))
+returns-clause-order c = order_from c.args.text.now c.read.result c.utf8.text (lexed_exact c.args.text.now c.read.result (exact_from c.args.text.now c.read.result c.read.ensures))
 
 pub returns-clause-each : goal.returns-clause-each
-returns-clause-each c = each-from c.args.text.now c.read.result c.utf8.text (lexed_exact c.args.text.now c.read.result (exact_from c.args.text.now c.read.result c.read.ensures))
+returns-clause-each c = each_from c.args.text.now c.read.result c.utf8.text (lexed_exact c.args.text.now c.read.result (exact_from c.args.text.now c.read.result c.read.ensures))

@@ -2,10 +2,11 @@ use Rattle.std.proofs.Common.{◌≡◌, ◌<◌, ◌-◌, ◌+◌, List, length
 use Rattle.std.specs.Prelude.{Ok}
 use Rattle.std.specs.Str.{chars, IsUtf8}
 use Rattle.std.proofs.lemmas.Bool.Decides.{nat_tests}
+use Rattle.std.proofs.lemmas.List.{nil_from_length}
 use Rattle.std.proofs.lemmas.Result.{err_from_is_err_and}
 use Rattle.og_lex.specs.declared.token.Token.{Token}
-use Rattle.og_lex.specs.Reading.{piece_at}
-use Rattle.og_lex.proofs.Scans.{IsRead, read_start, read_step, read_less, read_fail, read_end, empty_from_length, some_from_length}
+use Rattle.og_lex.specs.LeftToRight.{piece_at}
+use Rattle.og_lex.proofs.Scans.{IsRead, read_start, read_step, read_less, read_fail, read_end, some_from_length}
 use Rattle.og_lex.proofs.lexer.read.Goals as goal
 
 pub pieces-init : goal.pieces-init
@@ -14,7 +15,7 @@ pieces-init c = (c.utf8.text, subst (λ ts. IsRead c.args.text.now ts 0 c.args.t
 pub returns : goal.returns
 returns c =
     let none : length c.pieces.rest.now ≡ 0 = grind (arith, nat_tests) in
-    read_end c.args.text.now c.pieces.tokens c.pieces.place c.pieces.rest.now c.pieces.invariant.1 (empty_from_length c.pieces.rest.now none)
+    read_end c.args.text.now c.pieces.tokens c.pieces.place c.pieces.rest.now c.pieces.invariant.1 (nil_from_length c.pieces.rest.now none)
 
 pub overflow_sub-end : goal.overflow_sub-end
 overflow_sub-end c =

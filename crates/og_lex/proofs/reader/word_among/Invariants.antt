@@ -1,5 +1,5 @@
 use Rattle.std.proofs.Common.{◌≡◌, drop}
-use Rattle.og_lex.specs.Reading.{word_among}
+use Rattle.og_lex.specs.LeftToRight.{word_among}
 use Rattle.og_lex.proofs.reader.word_among.Given as goal
 
 abbrev pub invariant-words : goal.invariant-words

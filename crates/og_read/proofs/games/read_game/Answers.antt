@@ -1,6 +1,6 @@
 use Rattle.og_grammar.proofs.Whole.{spelled_to_end, unspelled_none, unspelled_rest}
 use Rattle.og_read.specs.Grammar.{game}
-use Rattle.og_read.specs.Fine.{game_fine}
+use Rattle.og_read.specs.laws.Fine.{game_fine}
 use Rattle.og_read.proofs.games.read_game.Goals as goal
 
 pub returns-then-is_done : goal.returns-then-is_done

@@ -1,6 +1,6 @@
 use Rattle.og_grammar.proofs.Whole.{IsSingle-rule}
 use Rattle.og_read.specs.Grammar.{strategy}
-use Rattle.og_read.specs.Fine.{strategy_fine}
+use Rattle.og_read.specs.laws.Fine.{strategy_fine}
 use Rattle.og_read.proofs.laws.one_strategy.Goals as goal
 
 pub returns : goal.returns

@@ -1,7 +1,7 @@
 use Rattle.std.proofs.Common.{refl}
 use Rattle.std.proofs.lemmas.Result.{err_from_is_err_and}
-use Rattle.og_grammar.proofs.Many.{many_begin}
-use Rattle.og_grammar.proofs.Loops.{each_goes_on, each_shrinks, each_fails, each_ends}
+use Rattle.og_grammar.proofs.StarReading.{many_begin}
+use Rattle.og_grammar.proofs.ReaderLoops.{each_goes_on, each_shrinks, each_fails, each_ends}
 use Rattle.og_read.specs.Grammar.{lines, line, empty_field, operation}
 use Rattle.og_read.proofs.lines.lines.Goals as goal
 

@@ -1,6 +1,6 @@
 use Rattle.og_grammar.proofs.Whole.{spelled_to_end, unspelled_none, unspelled_rest}
 use Rattle.og_read.specs.Grammar.{strategy}
-use Rattle.og_read.specs.Fine.{strategy_fine}
+use Rattle.og_read.specs.laws.Fine.{strategy_fine}
 use Rattle.og_read.proofs.strategies.read_strategy.Goals as goal
 
 pub returns-then-is_done : goal.returns-then-is_done

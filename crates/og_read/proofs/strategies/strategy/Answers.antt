@@ -1,8 +1,8 @@
 use Rattle.std.proofs.Common.{true, false, refl}
 use Rattle.std.proofs.lemmas.Result.{err_from_is_err_and}
-use Rattle.og_grammar.proofs.Sets.{sees_one}
-use Rattle.og_grammar.proofs.Many.{many_begin}
-use Rattle.og_grammar.proofs.Loops.{each_goes_on, each_shrinks, each_fails, each_ends}
+use Rattle.og_grammar.proofs.KindSets.{sees_one}
+use Rattle.og_grammar.proofs.StarReading.{many_begin}
+use Rattle.og_grammar.proofs.ReaderLoops.{each_goes_on, each_shrinks, each_fails, each_ends}
 use Rattle.og_read.specs.Grammar.{strategy, section}
 use Rattle.og_read.proofs.strategies.strategy.Goals as goal
 

@@ -1,6 +1,6 @@
 use Rattle.std.proofs.Common.{◌+◌, ◌++◌, ◌∙◌, ap, sym, arith}
 use Rattle.og_small.specs.Meaning.{deviations_at}
-use Rattle.og_small.proofs.Walks.{numbered_more}
+use Rattle.og_small.proofs.MeaningLemmas.{numbered_more}
 use Rattle.og_small.proofs.deviations.find_deviations.Goals as goal
 
 pub lines-preserved : goal.lines-preserved

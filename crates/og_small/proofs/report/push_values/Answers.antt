@@ -3,7 +3,7 @@ use Rattle.std.specs.Prelude.{flat_map}
 use Rattle.std.proofs.lemmas.List.{flat_map_more}
 use Rattle.og_small.specs.Meaning.{agents, has_agent}
 use Rattle.og_small.specs.Report.{value_line}
-use Rattle.og_small.proofs.Walks.{agents_new, agents_known}
+use Rattle.og_small.proofs.MeaningLemmas.{agents_new, agents_known}
 use Rattle.og_small.proofs.report.push_values.Goals as goal
 use Rattle.og_small.proofs.report.push_values.Goals.{then-not-has_agent+in_ok-push_value, else-not-has_agent}
 

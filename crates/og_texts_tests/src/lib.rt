@@ -1,0 +1,9 @@
+//! Tests of the crates that read texts and judge small games, through their public calls.
+#![tactic(auto)]
+
+#[cfg(test)]
+mod readers;
+#[cfg(test)]
+mod small_games;
+#[cfg(test)]
+mod tokens;
