@@ -1,9 +1,9 @@
 -- A text has at most one tree, and none where its one row of tokens spells none.
-use Rattle.std.proofs.Common.{◌≡◌, ℕ, List, true, false, subst}
+use Rattle.std.proofs.Common.{◌≡◌, ℕ, List, subst}
 use Rattle.og_lex.specs.declared.token.Token.{Token}
 use Rattle.og_small.specs.declared.tree.SmallGame.{SmallGame}
 use Rattle.og_small.specs.declared.tree.Section.{Section}
-use Rattle.og_small.specs.Rules.{is_accepted}
+use Rattle.og_small.specs.Accepted.{IsAccepted}
 use Rattle.og_read.specs.Spelled.{SpellsGame, SpellsStrategy}
 use Rattle.og_tool.specs.Texts.{IsPlain, IsGame, IsStrategy}
 use Rattle.og_tool.proofs.PlainTexts.{OneLexing, one_plain}
@@ -37,12 +37,11 @@ module _ (lexing : OneLexing) (text : List ℕ) where
   pub unspelled_strategy : (ts : List Token) → IsPlain text ts → ((sections : List Section) → SpellsStrategy text ts sections → ⊥) → (sections : List Section) → IsStrategy text sections → ⊥
   unspelled_strategy ts plain none sections s = none sections (sections_at ts plain sections s)
 
-  pub unaccepted_game : OneGame → (ts : List Token) → IsPlain text ts → (found : SmallGame) → SpellsGame text ts found → is_accepted found ≡ false
+  pub unaccepted_game : OneGame → (ts : List Token) → IsPlain text ts → (found : SmallGame) → SpellsGame text ts found → (IsAccepted found → ⊥)
       → (tree : SmallGame) → IsGame text tree → ⊥
   unaccepted_game one ts plain found spelled refused tree g =
       let same : tree ≡ found = one text ts tree found (spelled_at ts plain tree g) spelled in
-      let accepted : is_accepted found ≡ true = subst (λ (t : SmallGame). is_accepted t ≡ true) same g.accepted in
-      absurd (cc)
+      absurd (refused (subst (λ (t : SmallGame). IsAccepted t) same g.accepted))
 
   pub same_game : OneGame → (one other : SmallGame) → IsGame text one → IsGame text other → one ≡ other
   same_game law one other g h = law text h.tokens one other (spelled_at h.tokens h.plain one g) h.spelled

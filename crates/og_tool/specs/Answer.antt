@@ -1,8 +1,8 @@
 -- What is answered: the line of a refusal, or the report on a game under a strategy.
-use Rattle.std.specs.Prelude.{◌≡◌, ◌↔◌, ◌⊎◌, ℕ, List, [], ◌∷◌, ◌++◌, length, ◌==◌, if◌then◌else◌, true, codes}
+use Rattle.std.specs.Prelude.{◌≡◌, ◌↔◌, ◌⊎◌, ℕ, List, [], ◌∷◌, ◌++◌, length, ◌==◌, if◌then◌else◌, codes}
 use Rattle.og_small.specs.declared.tree.SmallGame.{SmallGame}
 use Rattle.og_small.specs.declared.tree.Section.{Section}
-use Rattle.og_small.specs.Rules.{fits}
+use Rattle.og_small.specs.Accepted.{Fits}
 use Rattle.og_small.specs.Meaning.{choices_of, deviations}
 use Rattle.og_small.specs.Equilibrium.{IsEquilibrium}
 use Rattle.og_small.specs.Report.{report}
@@ -25,7 +25,7 @@ pub record RefusesGame (game : List ℕ) (answer : Answer) : Type 0 where
 
 -- The strategy's text is no small strategy that fits the game.
 pub record RefusesStrategy (tree : SmallGame) (strategy : List ℕ) (answer : Answer) : Type 0 where
-  pub cause : (sections : List Section) → IsStrategy strategy sections → fits tree sections ≡ true → ⊥
+  pub cause : (sections : List Section) → IsStrategy strategy sections → Fits tree sections → ⊥
   pub refusal : IsRefusal ends.StrategyText (codes "strategy NotBuilt at 1:1") answer
 
 -- how a run ends that writes a report: whether it lists a deviation
@@ -37,7 +37,7 @@ verdict_of tree sections =
 pub record Reports (tree : SmallGame) (strategy : List ℕ) (answer : Answer) : Type 0 where
   pub sections : List Section
   pub is_strategy : IsStrategy strategy sections
-  pub suits : fits tree sections ≡ true
+  pub suits : Fits tree sections
   pub status : answer.status ≡ verdict_of tree sections
   pub equilibrium : (answer.status ≡ ends.Done) ↔ IsEquilibrium tree (choices_of sections)
   pub bytes : answer.bytes ≡ report tree (choices_of sections)

@@ -6,7 +6,7 @@ use Rattle.og_lex.specs.Characters.{is_blank}
 use Rattle.og_lex.specs.Spelling.{AreTokens}
 use Rattle.og_small.specs.declared.tree.SmallGame.{SmallGame}
 use Rattle.og_small.specs.declared.tree.Section.{Section}
-use Rattle.og_small.specs.Rules.{is_accepted}
+use Rattle.og_small.specs.Accepted.{IsAccepted}
 use Rattle.og_read.specs.Spelled.{SpellsGame, SpellsStrategy}
 
 -- how many bytes a text has at the most: 1 MiB
@@ -34,7 +34,7 @@ pub record IsGame (text : List ℕ) (tree : SmallGame) : Type 0 where
   pub tokens : List Token
   pub plain : IsPlain text tokens
   pub spelled : SpellsGame text tokens tree
-  pub accepted : is_accepted tree ≡ true
+  pub accepted : IsAccepted tree
 
 -- The text is plain, and its tokens spell these sections.
 pub record IsStrategy (text : List ℕ) (sections : List Section) : Type 0 where

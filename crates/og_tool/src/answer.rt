@@ -14,7 +14,7 @@ use crate::fetch::{Fetched, fetch};
 use crate::read::{game_of, one_small_strategy, strategy_of};
 use og_io::Files;
 use og_list::List;
-use og_small::{Section, SmallGame, fits, report_on};
+use og_small::{Section, SmallGame, fits, fitting_strategies, report_on};
 use std::alloc::{AllocError, Global};
 
 /// What to write, and the status to end with.
@@ -81,6 +81,7 @@ fn judge(alloc: Global, tree: &SmallGame, text: &[u8]) -> Result<Answer, AllocEr
     ensures { IfOk result (AnswersStrategy tree.now text.now) }
 {
     one_small_strategy();
+    fitting_strategies();
     let bad = b"refused strategy NotBuilt at 1:1\n".as_slice();
     match strategy_of(alloc, text)? {
         Some(sections) => {

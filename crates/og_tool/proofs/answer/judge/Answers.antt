@@ -2,6 +2,7 @@ use Rattle.std.proofs.Common.{◌≡◌, ◌∙◌, ap, List, Option, true, fals
 use Rattle.std.specs.Prelude.{◌↔◌}
 use Rattle.og_small.specs.declared.tree.Section.{Section}
 use Rattle.og_small.specs.Rules.{fits}
+use Rattle.og_small.specs.Accepted.{Fits}
 use Rattle.og_small.specs.Meaning.{choices_of}
 use Rattle.og_small.specs.Report.{report}
 use Rattle.og_small.specs.Equilibrium.{IsEquilibrium}
@@ -17,7 +18,8 @@ returns-in-Some c =
     inl (record {
       cause = λ others other_is other_fits.
           let same : others ≡ c.in-Some.sections = c.one_small_strategy.ensures c.args.text.now others c.in-Some.sections other_is is_strategy in
-          let suits : fits c.args.tree.now c.in-Some.sections ≡ true = subst (λ (s : List Section). fits c.args.tree.now s ≡ true) same other_fits in
+          let suits : Fits c.args.tree.now c.in-Some.sections = subst (λ (s : List Section). Fits c.args.tree.now s) same other_fits in
+          let fit : fits c.args.tree.now c.in-Some.sections ≡ true = (c.fitting_strategies.ensures c.args.tree.now c.in-Some.sections).1 suits in
           absurd (cc);
       refusal = record {
         status = c.in_ok-line-in-Some.ensures.ends;
@@ -45,7 +47,7 @@ returns-then-suits c =
     inr (record {
       sections = c.in-Some.sections;
       is_strategy = is_strategy;
-      suits = suits;
+      suits = (c.fitting_strategies.ensures c.args.tree.now c.in-Some.sections).0 suits;
       status = c.in_ok-reported-in-Some.ensures.ends ∙ ap (verdict_of c.args.tree.now) same;
       equilibrium = subst (λ (s : List Section). (c.in_ok-reported-in-Some.field-0.status ≡ Done) ↔ IsEquilibrium c.args.tree.now (choices_of s)) same
           c.in_ok-reported-in-Some.ensures.equilibrium;
