@@ -1,2 +1,2 @@
 pub mod Latest
-pub mod Reading
+pub mod LoadsHeld

@@ -7,7 +7,7 @@ use Rattle.og_io.specs.declared.faults.LoadFault.{LoadFault}
 use Rattle.og_io.specs.declared.faults.LoadFault.TheVariants as load
 use Rattle.og_io.specs.declared.faults.PutFault.{PutFault}
 use Rattle.og_io.specs.declared.faults.PutFault.TheVariants as put
-use Rattle.og_io.specs.Names.{times}
+use Rattle.og_io.specs.NameLists.{times}
 use Rattle.og_io.specs.Outside.{FilesState, SinkState}
 
 -- Files in memory: what was added, in order, the numbers of the calls that are to fail, how many
@@ -41,11 +41,11 @@ abbrev pub is_told : List ℕ → ℕ → Bool
 is_told failing call = list_any (λ told. told == call) failing
 
 -- What a load from memory answers, and why: whether its number was told to fail, and what is held.
-abbrev pub Answers : Bool → Option (List ℕ) → ℕ → Result (Vec ℕ Global) LoadFault → Type 0
-Answers told held cap (Ok bytes) = (told ≡ false) × (held ≡ Some bytes.items) × (length bytes.items ≤ cap)
-Answers told held cap (Err load.Failed) = (told ≡ true) ⊎ (held ≡ None)
-Answers told held cap (Err load.Long) = (told ≡ false) × IsSomeAnd held (λ bytes. cap < length bytes)
-Answers told held cap (Err load.Memory) = ⊤
+abbrev pub AnswersLoad : Bool → Option (List ℕ) → ℕ → Result (Vec ℕ Global) LoadFault → Type 0
+AnswersLoad told held cap (Ok bytes) = (told ≡ false) × (held ≡ Some bytes.items) × (length bytes.items ≤ cap)
+AnswersLoad told held cap (Err load.Failed) = (told ≡ true) ⊎ (held ≡ None)
+AnswersLoad told held cap (Err load.Long) = (told ≡ false) × IsSomeAnd held (λ bytes. cap < length bytes)
+AnswersLoad told held cap (Err load.Memory) = ⊤
 
 -- The names whose loads failed: one more where this load failed, and else the same.
 abbrev pub NotesFault : List ℕ → List (List ℕ) → List (List ℕ) → Result (Vec ℕ Global) LoadFault → Type 0

@@ -7,7 +7,7 @@ use Rattle.og_io.specs.declared.faults.LoadFault.{LoadFault}
 use Rattle.og_io.specs.declared.faults.LoadFault.TheVariants as load
 use Rattle.og_io.specs.declared.faults.PutFault.{PutFault}
 use Rattle.og_io.specs.declared.faults.PutFault.TheVariants as put
-use Rattle.og_io.specs.Names.{times}
+use Rattle.og_io.specs.NameLists.{times}
 
 -- The state of files: the bytes held under each name, where they are told, how often each name was
 -- loaded, and how many of its loads failed.
@@ -72,11 +72,11 @@ CountsFault name before after (Err load.Memory) = IsUnmoved before.faults after.
 
 -- What was read is all that is held, where that is told, and isn't longer than the cap. It is refused as
 -- long where it is longer.
-abbrev pub Reads : Option (List ℕ) → ℕ → Result (Vec ℕ Global) LoadFault → Type 0
-Reads held cap (Ok bytes) = (length bytes.items ≤ cap) × IfSome held (λ told. bytes.items ≡ told)
-Reads held cap (Err load.Failed) = ⊤
-Reads held cap (Err load.Long) = IfSome held (λ told. cap < length told)
-Reads held cap (Err load.Memory) = ⊤
+abbrev pub LoadsHeld : Option (List ℕ) → ℕ → Result (Vec ℕ Global) LoadFault → Type 0
+LoadsHeld held cap (Ok bytes) = (length bytes.items ≤ cap) × IfSome held (λ told. bytes.items ≡ told)
+LoadsHeld held cap (Err load.Failed) = ⊤
+LoadsHeld held cap (Err load.Long) = IfSome held (λ told. cap < length told)
+LoadsHeld held cap (Err load.Memory) = ⊤
 
 -- ---- sinks
 

@@ -1,5 +1,5 @@
 ghost use Rattle.std.specs.Prelude.{List, ℕ, [], ◌∷◌};
-ghost use Rattle.og_io.specs.Outside.{FilesState, OnlyLoads, CountsLoad, CountsFault, Reads};
+ghost use Rattle.og_io.specs.Outside.{FilesState, OnlyLoads, CountsLoad, CountsFault, LoadsHeld};
 
 use crate::LoadFault;
 use std::alloc::Global;
@@ -16,5 +16,5 @@ pub trait Files {
         ensures only { OnlyLoads (name.now ∷ []) (state self.old) (state self.new) }
         ensures counted { CountsLoad name.now (state self.old) (state self.new) result }
         ensures fault { CountsFault name.now (state self.old) (state self.new) result }
-        ensures bytes { Reads ((state self.old).held name.now) cap result };
+        ensures bytes { LoadsHeld ((state self.old).held name.now) cap result };
 }

@@ -2,7 +2,7 @@ ghost use Rattle.std.specs.Prelude.{◌≡◌, []};
 ghost use Rattle.og_io.specs.Outside.{untold_files};
 
 use crate::log::Log;
-use crate::whole::read_whole;
+use crate::streams::read_whole;
 use crate::{Files, LoadFault};
 use std::alloc::Global;
 use std::fs::File;

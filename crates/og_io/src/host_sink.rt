@@ -3,7 +3,7 @@ ghost use Rattle.og_io.specs.Outside.{Puts, untold_sink};
 ghost use Rattle.og_io.specs.Fakes.{Counts, next_call};
 ghost use Rattle.og_io.specs.declared.faults.PutFault.TheVariants as put;
 
-use crate::whole::write_whole;
+use crate::streams::write_whole;
 use crate::{PutFault, Sink};
 use std::io;
 

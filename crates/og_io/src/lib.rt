@@ -1,6 +1,7 @@
 //! The outside as traits: files that are read whole under a cap, and a sink that takes bytes. Each
-//! trait has a fake in memory, whose bytes contracts can name, and an adapter to the host, which
-//! tells no bytes.
+//! tells its state: what is held or written, and how often it was loaded or put to and failed. Each trait
+//! has a fake in memory, whose bytes contracts can name, and an adapter to the host, which tells no bytes
+//! and reads and writes by functions over any reader and any writer.
 #![tactic(auto)]
 
 mod faults;
@@ -11,7 +12,7 @@ mod log;
 mod mem_files;
 mod mem_sink;
 mod sink;
-mod whole;
+mod streams;
 
 pub use faults::{LoadFault, PutFault};
 pub use files::Files;
@@ -20,4 +21,4 @@ pub use host_sink::HostSink;
 pub use mem_files::MemFiles;
 pub use mem_sink::MemSink;
 pub use sink::Sink;
-pub use whole::{read_whole, write_whole};
+pub use streams::{read_whole, write_whole};

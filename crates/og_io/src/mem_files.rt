@@ -1,7 +1,7 @@
 ghost use Rattle.std.specs.Prelude.{◌≡◌, ◌≢◌, true, ℕ, List, [], ◌∷◌, ◌++◌, ◌⊎◌, Option, Some, None, IsTrue, IfOk, OnOk, OnErr, length, map};
 ghost use Rattle.std.specs.Option.{option_copied};
-ghost use Rattle.og_io.specs.Outside.{CountsFault, CountsLoad, OnlyLoads, Reads};
-ghost use Rattle.og_io.specs.Fakes.{bytes_under, files_state, next_call, is_told, Answers, NotesFault, NotesLoad};
+ghost use Rattle.og_io.specs.Outside.{CountsFault, CountsLoad, OnlyLoads, LoadsHeld};
+ghost use Rattle.og_io.specs.Fakes.{bytes_under, files_state, next_call, is_told, AnswersLoad, NotesFault, NotesLoad};
 
 use crate::log::Log;
 use crate::{Files, LoadFault};
@@ -101,8 +101,8 @@ fn answer(
     name: &str,
     cap: usize,
 ) -> Result<Vec<u8>, LoadFault>
-    ensures answers { Answers is_told (bytes_under files.now name.now) cap result }
-    ensures bytes { Reads (bytes_under files.now name.now) cap result }
+    ensures answers { AnswersLoad is_told (bytes_under files.now name.now) cap result }
+    ensures bytes { LoadsHeld (bytes_under files.now name.now) cap result }
 {
     if is_told {
         return Err(LoadFault::Failed);
@@ -121,13 +121,13 @@ impl Files for MemFiles {
         ensures only { OnlyLoads (name.now ∷ []) (files_state self.old) (files_state self.new) }
         ensures counted { CountsLoad name.now (files_state self.old) (files_state self.new) result }
         ensures fault { CountsFault name.now (files_state self.old) (files_state self.new) result }
-        ensures bytes { Reads (bytes_under self.old.files name.now) cap result }
+        ensures bytes { LoadsHeld (bytes_under self.old.files name.now) cap result }
         ensures files { self.new.files ≡ self.old.files }
         ensures failing { self.new.failing ≡ self.old.failing }
         ensures number { self.new.calls ≡ next_call self.old.calls }
         ensures loaded { NotesLoad name.now self.old.loaded self.new.loaded result }
         ensures failed { NotesFault name.now self.old.failed self.new.failed result }
-        ensures answers { Answers (is_told self.old.failing self.new.calls)
+        ensures answers { AnswersLoad (is_told self.old.failing self.new.calls)
             (bytes_under self.old.files name.now) cap result }
     {
         self.calls = self.calls.saturating_add(1);

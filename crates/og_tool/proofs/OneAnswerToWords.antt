@@ -3,7 +3,7 @@ use Rattle.std.proofs.Common.{◌≡◌, ◌∙◌, ℕ, List, [], ◌∷◌, Op
 use Rattle.std.specs.Prelude.{IsSome}
 use Rattle.std.proofs.Common.{inl, inr}
 use Rattle.std.proofs.lemmas.Slice.Eq.{bytes_eq-Decides}
-use Rattle.og_io.specs.Names.{times}
+use Rattle.og_io.specs.NameLists.{times}
 use Rattle.og_io.specs.Outside.{FilesState, GrowsBy, IsUnmoved}
 use Rattle.og_tool.specs.declared.answer.Answer.{Answer}
 use Rattle.og_tool.specs.Command.{Command}

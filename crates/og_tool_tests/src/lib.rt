@@ -7,4 +7,4 @@ mod outside;
 #[cfg(test)]
 mod runs;
 #[cfg(test)]
-mod whole;
+mod streams;

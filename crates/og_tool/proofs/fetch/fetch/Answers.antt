@@ -3,7 +3,7 @@ use Rattle.std.specs.declared.alloc.Global.{Global}
 use Rattle.std.specs.declared.vec.Vec.{Vec}
 use Rattle.og_io.specs.declared.faults.LoadFault.{LoadFault}
 use Rattle.og_io.specs.declared.faults.LoadFault.TheVariants.{Long}
-use Rattle.og_io.specs.Outside.{CountsLoad, CountsFault, Reads}
+use Rattle.og_io.specs.Outside.{CountsLoad, CountsFault, LoadsHeld}
 use Rattle.og_tool.specs.Texts.{longest_text}
 use Rattle.og_tool.proofs.HalvesMeet.{long_text}
 use Rattle.og_tool.proofs.fetch.fetch.Goals as goal
@@ -15,5 +15,5 @@ returns-in-Err-Long-clause-fetches g c =
     let is : c.load.result ≡ Err Long = c.in-Err-Long.is ∙ ap Err c.in-Err-Long.field-0-is in
     let counted = subst (λ (r : Result (Vec ℕ Global) LoadFault). CountsLoad c.args.file.now before after r) is c.load.ensures.counted in
     let fault = subst (λ (r : Result (Vec ℕ Global) LoadFault). CountsFault c.args.file.now before after r) is c.load.ensures.fault in
-    let long = subst (λ (r : Result (Vec ℕ Global) LoadFault). Reads (before.held c.args.file.now) longest_text r) is c.load.ensures.bytes in
+    let long = subst (λ (r : Result (Vec ℕ Global) LoadFault). LoadsHeld (before.held c.args.file.now) longest_text r) is c.load.ensures.bytes in
     (record { loads = counted; no_fault = fault }, long_text (before.held c.args.file.now) longest_text long)

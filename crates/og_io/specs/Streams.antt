@@ -8,7 +8,7 @@ use Rattle.std.specs.declared.io.Error.{Error}
 use Rattle.std.specs.declared.io.ErrorKind.TheVariants.{OutOfMemory}
 use Rattle.og_io.specs.declared.faults.LoadFault.{LoadFault}
 use Rattle.og_io.specs.declared.faults.LoadFault.TheVariants as load
-use Rattle.og_io.specs.Outside.{Reads}
+use Rattle.og_io.specs.Outside.{LoadsHeld}
 
 -- The fault is want of memory where the host says so, and else a failure.
 abbrev pub IsFaultOf : Error → LoadFault → Type 0
@@ -23,7 +23,7 @@ Refuses error result = (fault : LoadFault) × (result ≡ Err fault) × IsFaultO
 -- A reader that was opened is read to its end, and one that wasn't is refused by its error.
 abbrev pub ReadsOpened : {R : Type 0} → (R → Option (List ℕ)) → Result R Error → ℕ
     → Result (Vec ℕ Global) LoadFault → Type 0
-ReadsOpened remaining (Ok reader) cap result = Reads (remaining reader) cap result
+ReadsOpened remaining (Ok reader) cap result = LoadsHeld (remaining reader) cap result
 ReadsOpened remaining (Err error) cap result = Refuses error result
 
 -- What was read is answered where it isn't longer than the cap, and a read's error is its refusal.

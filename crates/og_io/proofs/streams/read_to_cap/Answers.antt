@@ -1,5 +1,5 @@
-use Rattle.og_io.proofs.Reading.{read_limited}
-use Rattle.og_io.proofs.whole.read_to_cap.Goals as goal
+use Rattle.og_io.proofs.LoadsHeld.{read_limited}
+use Rattle.og_io.proofs.streams.read_to_cap.Goals as goal
 
 pub returns-in-Some : goal.returns-in-Some
 returns-in-Some g c =

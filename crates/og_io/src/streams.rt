@@ -1,8 +1,8 @@
 //! Reading a reader to its end, and writing all bytes to a writer.
 
 ghost use Rattle.std.specs.Prelude.{◌≡◌, ◌≢◌, ℕ, List};
-ghost use Rattle.og_io.specs.Outside.{Reads};
-ghost use Rattle.og_io.specs.Whole.{Ends, IsFaultOf, ReadsOpened, Writes, WritesPiece};
+ghost use Rattle.og_io.specs.Outside.{LoadsHeld};
+ghost use Rattle.og_io.specs.Streams.{Ends, IsFaultOf, ReadsOpened, Writes, WritesPiece};
 
 use crate::LoadFault;
 use std::alloc::Global;
@@ -32,13 +32,13 @@ fn end_read(read: io::Result<usize>, bytes: Vec<u8>, cap: usize) -> Result<Vec<u
 }
 
 /// Reads all that a reader has left, if that is at most `cap` bytes.
-#[tactic(auto, using(crate::proofs::Reading::read_limited, crate::proofs::Reading::read_unlimited))]
+#[tactic(auto, using(crate::proofs::LoadsHeld::read_limited, crate::proofs::LoadsHeld::read_unlimited))]
 fn read_to_cap<R: Read + Drop>(
     mut reader: R,
     alloc: Global,
     cap: usize,
 ) -> Result<Vec<u8>, LoadFault>
-    ensures { Reads (R.remaining reader) cap result }
+    ensures { LoadsHeld (R.remaining reader) cap result }
 {
     let mut bytes = Vec::new(alloc);
     match cap.checked_add(1) {
