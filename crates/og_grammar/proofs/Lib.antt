@@ -5,4 +5,5 @@ pub mod SameKinds
 pub mod Sound
 pub mod StarReading
 pub mod Starts
+pub mod Viable
 pub mod Whole

@@ -1,20 +1,34 @@
 -- The laws of a rule that is fine.
-use Rattle.std.proofs.Common.{◌≡◌, true, List, [], ◌∷◌, Some, None, refl, sym, ◌∙◌, ap}
+use Rattle.std.proofs.Common.{◌≡◌, true, List, [], ◌∷◌, ◌++◌, ◌⊎◌, Some, None, inl, inr, refl, sym, ◌∙◌, ap}
 use Rattle.std.proofs.lemmas.List.{append-nil}
 use Rattle.std.proofs.lemmas.Option.{some_pair_parts, none-some}
 use Rattle.og_lex.specs.declared.token.Token.{Token}
 use Rattle.og_grammar.specs.Rule.{Rule, spells}
-use Rattle.og_grammar.specs.Reading.{Outcome, fine, more, read, value_at_end}
-use Rattle.og_grammar.specs.Laws.{IsSpelled, IsSound, IsComplete, IsSingle, IsExact}
+use Rattle.og_grammar.specs.Reading.{Outcome, fine, first, more, sees_any, read, value_at_end}
+use Rattle.og_grammar.specs.Laws.{IsSpelled, IsSound, IsComplete, IsSingle, IsExact, HasFronts}
 use Rattle.og_grammar.proofs.KindSets.{sees_none}
 use Rattle.og_grammar.proofs.Sound.{sound}
 use Rattle.og_grammar.proofs.Complete.{complete}
+use Rattle.og_grammar.proofs.Starts.{Starts, viable_starts}
+use Rattle.og_grammar.proofs.Viable.{viable_nil, viable_spelled, viable_front}
 
 pub IsSound-rule : {A : Type 0} (rule : Rule A) → IsSound rule
 IsSound-rule rule ts rest a e = let r = sound rule ts a rest e in (r.front, r.cut, r.spelled)
 
 pub IsComplete-rule : {A : Type 0} (rule : Rule A) → fine rule ≡ true → IsComplete rule
 IsComplete-rule rule e front rest a p s = complete rule e front rest a p s
+
+viable_first : {A : Type 0} (rule : Rule A) (ts : List Token) → Starts true (first rule) ts → (ts ≡ []) ⊎ (sees_any (first rule) ts ≡ true)
+viable_first rule ts (inl p) = inl p.0
+viable_first rule ts (inr seen) = inr (rw (append-nil ts) at (seen []))
+
+pub HasFronts-rule : {A : Type 0} (rule : Rule A) → HasFronts rule
+HasFronts-rule rule = record {
+  empty = viable_nil rule;
+  whole = λ ts a p. viable_spelled rule ts a p;
+  fronts = λ front rest p. viable_front rule (front ++ rest) front rest refl p;
+  starts = λ ts p. viable_first rule ts (viable_starts rule ts p);
+}
 
 -- a whole list that is spelled is read to its end
 pub read_to_end : {A : Type 0} (rule : Rule A) → fine rule ≡ true → (ts : List Token) (a : A) → spells rule ts a → read rule ts ≡ Some (a, [])

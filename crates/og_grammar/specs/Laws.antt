@@ -1,10 +1,10 @@
 -- What a reader of a rule promises, and the laws that any rule that is fine has.
-use Rattle.std.specs.Prelude.{◌≡◌, false, List, ◌++◌, Option, Some, MatchOption}
+use Rattle.std.specs.Prelude.{◌≡◌, ◌⊎◌, true, false, List, [], ◌++◌, Option, Some, MatchOption}
 use Rattle.og_lex.specs.declared.token.Token.{Token}
 use Rattle.og_lex.specs.declared.token.Kind.{Kind}
 use Rattle.og_lex.specs.declared.token.Kind.TheVariants.{Number}
-use Rattle.og_grammar.specs.Rule.{Rule, spells}
-use Rattle.og_grammar.specs.Reading.{more, read, read_whole, sees_any}
+use Rattle.og_grammar.specs.Rule.{Rule, spells, viable}
+use Rattle.og_grammar.specs.Reading.{first, more, read, read_whole, sees_any}
 
 -- the value for which the whole list is spelled, or None where there is none
 abbrev pub IsSpelled : {A : Type 0} → Rule A → List Token → Option A → Type 0
@@ -32,6 +32,13 @@ IsSingle {A} rule = (ts : List Token) (a b : A) → spells rule ts a → spells 
 -- reading a whole list gives a value exactly where one is spelled
 abbrev pub IsExact : {A : Type 0} → Rule A → Type 0
 IsExact rule = (ts : List Token) → IsSpelled rule ts (read_whole rule ts)
+
+-- What may begin: no token, what is spelled, and each front of what may. It begins with a first kind.
+pub record HasFronts {A : Type 0} (rule : Rule A) : Type 0 where
+  pub empty : viable rule []
+  pub whole : (ts : List Token) (a : A) → spells rule ts a → viable rule ts
+  pub fronts : (front rest : List Token) → viable rule (front ++ rest) → viable rule front
+  pub starts : (ts : List Token) → viable rule ts → (ts ≡ []) ⊎ (sees_any (first rule) ts ≡ true)
 
 -- equal, but for the value of a number
 abbrev pub IsSameKind : Kind → Kind → Type 0

@@ -4,7 +4,7 @@ ghost use Rattle.std.specs.Prelude.{◌≡◌, ◌↔◌, true, IsTrue, List, �
 ghost use Rattle.og_lex.specs.declared.token.Kind.{Kind};
 ghost use Rattle.og_grammar.specs.Rule.{Rule, same_kind};
 ghost use Rattle.og_grammar.specs.Reading.{fine};
-ghost use Rattle.og_grammar.specs.Laws.{IsSound, IsComplete, IsSingle, IsExact, IsSameKind};
+ghost use Rattle.og_grammar.specs.Laws.{IsSound, IsComplete, IsSingle, IsExact, HasFronts, IsSameKind};
 
 /// Two kinds are one to a grammar exactly where they are equal, but for the value of a number.
 pub fn same_kinds()
@@ -35,6 +35,12 @@ pub fn whole_reading<L: Language>()
 /// A list of tokens spells at most one value.
 pub fn single_value<L: Language>()
     ensures { (text : List ℕ) → IsSingle (L.rule text) }
+{}
+
+/// The empty list is viable, what is spelled is, and so is each front of what is. A viable list that
+/// isn't empty begins with one of the rule's first kinds.
+pub fn viable_fronts<L: Language>()
+    ensures { (text : List ℕ) → HasFronts (L.rule text) }
 {}
 
 /// Reading a whole list gives a value exactly where one is spelled.
