@@ -8,6 +8,7 @@ mod tokens;
 
 pub use fault::Fault;
 pub use laws::{
-    Language, exact_reading, same_kinds, single_value, sound_reading, viable_fronts, whole_reading,
+    Language, exact_reading, same_kinds, single_value, single_verdict, sound_reading,
+    viable_fronts, whole_reading,
 };
 pub use tokens::Tokens;

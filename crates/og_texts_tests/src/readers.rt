@@ -1,5 +1,6 @@
 use og_grammar::{
-    exact_reading, same_kinds, single_value, sound_reading, viable_fronts, whole_reading,
+    exact_reading, same_kinds, single_value, single_verdict, sound_reading, viable_fronts,
+    whole_reading,
 };
 use og_lex::{MAX_TEXT, Token, lex};
 use og_list::List;
@@ -188,6 +189,7 @@ fn laws() {
     single_value::<SmallGames>();
     viable_fronts::<SmallGames>();
     exact_reading::<Strategies>();
+    single_verdict::<Strategies>();
     one_game();
     one_strategy();
 }
