@@ -1,10 +1,10 @@
 -- What is spelled is read, whatever follows that the rule wouldn't go on with.
-use Rattle.std.proofs.Common.{◌≡◌, ℕ, zero, suc, ◌≤◌, Bool, true, false, not, ◌&&◌, List, [], ◌∷◌, ◌++◌, length, Ok, inl, inr, refl, ap, arith, append_assoc, length-append}
-use Rattle.std.proofs.lemmas.Bool.{and_parts, not-true}
+use Rattle.std.proofs.Common.{◌≡◌, ℕ, zero, suc, ◌≤◌, Bool, true, false, not, ◌&&◌, List, [], ◌∷◌, ◌++◌, length, Ok, inl, inr, refl, sym, ◌∙◌, ap, arith, append_assoc, length-append}
+use Rattle.std.proofs.lemmas.Bool.{and_parts, not-true, false≢true}
 use Rattle.og_lex.specs.declared.token.Token.{Token}
 use Rattle.og_lex.specs.declared.token.Kind.{Kind}
-use Rattle.og_grammar.specs.Rule.{Rule, one, give, seq, alt, star, map, spells, IsToken, EachInTurn}
-use Rattle.og_grammar.specs.Reading.{apart, kinds_if, sees_any, nullable, first, more, fine, Outcome, and_then, with_value, read_token, read_each, read_all, read}
+use Rattle.og_grammar.specs.Rule.{Rule, one, give, seq, alt, star, map, at, spells, IsPlaceOf, IsToken, EachInTurn}
+use Rattle.og_grammar.specs.Reading.{apart, kinds_if, sees_any, nullable, first, more, fine, Outcome, and_then, with_value, read_token, read_each, read_all, read, place}
 use Rattle.og_grammar.proofs.KindSets.{sees_none, sees_apart, stops_left, stops_right}
 use Rattle.og_grammar.proofs.Starts.{Starts, starts, starts_each}
 
@@ -64,6 +64,15 @@ alt_fine a b c d e =
 pub star_fine : (a b c : Bool) → (a && (not b && c)) ≡ true → (a ≡ true) × (b ≡ false) × (c ≡ true)
 star_fine a b c e = let p = seq_fine a (not b) c e in (p.0, not-true b p.1, p.2)
 
+pub at_fine : (a b : Bool) → (a && not b) ≡ true → (a ≡ true) × (b ≡ false)
+at_fine a b e = let p = and_parts a (not b) e in (p.0, not-true b p.1)
+
+-- what begins with a token has its place
+same_place : (ks : List Kind) (xs rest : List Token) (n : ℕ) → sees_any ks (xs ++ []) ≡ true → IsPlaceOf xs n → place (xs ++ rest) ≡ n
+unfolding place
+same_place ks [] rest n seen p = let none = sees_none ks in absurd (false≢true (sym none ∙ seen))
+same_place ks (t ∷ xs) rest n seen p = sym p
+
 pub complete : {A : Type 0} (f : Rule A) → fine f ≡ true → (xs rest : List Token) (a : A) → spells f xs a → sees_any (more f) rest ≡ false → read f (xs ++ rest) ≡ Ok (a, rest)
 unfolding read_all
 complete (one k test) e xs rest a p s = token_again k test xs rest a p
@@ -90,3 +99,7 @@ complete (star f) e xs rest a p s =
     each_again (spells f) (read f) (nullable f) (first f) (more f) fines.1 fines.2 (λ ys b q. starts f ys b q) (λ ys after b q stop. complete f fines.0 ys after b q stop)
     a xs rest (length (xs ++ rest)) p (stops_left (more f) (first f) rest s) (stops_right (more f) (first f) rest s) (omega arith)
 complete (map h f) e xs rest a (b, p, value) s = rw (complete f e xs rest b p s, value) refl
+complete (at f) e xs rest a (p, q) s =
+    let fines = at_fine (fine f) (nullable f) e in
+    let here = same_place (first f) xs rest a.0 (begins (nullable f) (first f) xs [] fines.1 (starts f xs a.1 q)) p in
+    rw (complete f fines.0 xs rest a.1 q s, here) refl

@@ -3,8 +3,8 @@ use Rattle.std.proofs.Common.{◌≡◌, ℕ, zero, suc, Bool, ◌&&◌, List, [
 use Rattle.std.proofs.lemmas.Bool.{cases_Bool, and_parts}
 use Rattle.og_lex.specs.declared.token.Token.{Token}
 use Rattle.og_lex.specs.declared.token.Kind.{Kind}
-use Rattle.og_grammar.specs.Rule.{Rule, one, give, seq, alt, star, map, same_kind, spells, IsToken, InTurn, EachInTurn}
-use Rattle.og_grammar.specs.Reading.{sees_any, first, Outcome, and_then, with_value, read_token, read_each, read_all, read}
+use Rattle.og_grammar.specs.Rule.{Rule, one, give, seq, alt, star, map, at, same_kind, spells, IsPlaceOf, WithPlace, IsToken, InTurn, EachInTurn}
+use Rattle.og_grammar.specs.Reading.{sees_any, first, Outcome, and_then, with_value, read_token, read_each, read_all, read, place}
 
 -- The tokens begin with some that are spelled for the value, and go on with the rest.
 pub record Reads {A : Type 0} (f : List Token → A → Type 0) (ts : List Token) (a : A) (rest : List Token) : Type 0 where
@@ -81,6 +81,14 @@ each_read f ks item told (suc n) ts vs rest e =
           record { front = []; cut = parts.1; spelled = rw (← parts.0) refl }
     ]
 
+place_of : (front rest ts : List Token) → ts ≡ front ++ rest → IsPlaceOf front (place ts)
+unfolding place
+place_of [] rest ts e = tt
+place_of (t ∷ front) rest ts e = rw e refl
+
+place_read : {A : Type 0} (f : List Token → A → Type 0) (ts rest : List Token) (a : A) (v : ℕ × A) → v ≡ (place ts, a) → Reads f ts a rest → Reads (WithPlace f) ts v rest
+place_read f ts rest a v e r = record { front = r.front; cut = r.cut; spelled = rw e (place_of r.front rest ts r.cut, r.spelled) }
+
 pub sound : {A : Type 0} (f : Rule A) (ts : List Token) (a : A) (rest : List Token) → read f ts ≡ Ok (a, rest) → Reads (spells f) ts a rest
 unfolding read_all
 sound (one k test) ts a rest e = token_read k test ts a rest e
@@ -100,3 +108,6 @@ sound (map h f) ts b rest e =
     let (a, read_is, value_is) = with_value_ok h (read f ts) b rest e in
     let r = sound f ts a rest read_is in
     record { front = r.front; cut = r.cut; spelled = (a, r.spelled, value_is) }
+sound (at f) ts v rest e =
+    let (a, read_is, value_is) = with_value_ok (λ b. (place ts, b)) (read f ts) v rest e in
+    place_read (spells f) ts rest a v value_is (sound f ts a rest read_is)

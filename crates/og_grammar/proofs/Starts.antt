@@ -2,7 +2,7 @@
 use Rattle.std.proofs.Common.{◌≡◌, Bool, true, false, ◌&&◌, ◌||◌, List, [], ◌∷◌, ◌++◌, ◌⊎◌, inl, inr, refl, append_assoc}
 use Rattle.og_lex.specs.declared.token.Token.{Token}
 use Rattle.og_lex.specs.declared.token.Kind.{Kind}
-use Rattle.og_grammar.specs.Rule.{Rule, one, give, seq, alt, star, map, same_kind, spells, viable, EachInTurn}
+use Rattle.og_grammar.specs.Rule.{Rule, one, give, seq, alt, star, map, at, same_kind, spells, viable, EachInTurn}
 use Rattle.og_grammar.specs.Reading.{sees, sees_any, nullable, first, kinds_if}
 use Rattle.std.proofs.lemmas.Bool.{or_left, or_right}
 use Rattle.og_grammar.proofs.KindSets.{sees_left, sees_right}
@@ -49,6 +49,7 @@ starts (alt f g) xs a (inl p) = starts_left (nullable f) (nullable g) (first f) 
 starts (alt f g) xs a (inr p) = starts_right (nullable f) (nullable g) (first f) (first g) xs (starts g xs a p)
 starts (star f) xs a p = starts_each (nullable f) (first f) (spells f) (λ ys v. starts f ys v) a xs p
 starts (map h f) xs a p = starts f xs p.0 p.1
+starts (at f) xs a p = starts f xs a.1 p.1
 
 -- ---- viable lists
 
@@ -75,3 +76,4 @@ viable_starts (alt f g) xs (inr p) = starts_right true true (first f) (first g) 
 viable_starts (star f) xs (ys, zs, vs, cut, p, q) =
     starts_after (nullable f) (first f) (spells f) (λ us v h. starts f us v h) vs xs ys zs cut p (viable_starts f zs q)
 viable_starts (map h f) xs p = viable_starts f xs p
+viable_starts (at f) xs p = viable_starts f xs p

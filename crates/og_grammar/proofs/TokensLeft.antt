@@ -4,13 +4,13 @@ use Rattle.std.proofs.lemmas.Bool.{cases_Bool}
 use Rattle.std.proofs.lemmas.List.{append-nil}
 use Rattle.og_lex.specs.declared.token.Token.{Token}
 use Rattle.og_lex.specs.declared.token.Kind.{Kind}
-use Rattle.og_grammar.specs.Rule.{Rule, one, give, seq, alt, star, map, same_kind, spells, viable, EachInTurn, BeginsToken, BeginsEach}
-use Rattle.og_grammar.specs.Reading.{apart, sees_any, nullable, first, more, fine, Outcome, and_then, with_value, read_token, read_each, read_all, read}
+use Rattle.og_grammar.specs.Rule.{Rule, one, give, seq, alt, star, map, at, same_kind, spells, viable, EachInTurn, BeginsToken, BeginsEach}
+use Rattle.og_grammar.specs.Reading.{apart, sees_any, nullable, first, more, fine, Outcome, and_then, with_value, read_token, read_each, read_all, read, place}
 use Rattle.og_grammar.proofs.KindSets.{sees_apart}
 use Rattle.og_grammar.proofs.Starts.{Starts, starts, starts_after, viable_starts}
 use Rattle.og_grammar.proofs.Viable.{viable_spelled, one_before}
 use Rattle.og_grammar.proofs.Sound.{Reads, no_value, sound}
-use Rattle.og_grammar.proofs.Complete.{begins, seen_length, seq_fine, alt_fine, star_fine, token_again, complete}
+use Rattle.og_grammar.proofs.Complete.{begins, seen_length, seq_fine, alt_fine, star_fine, at_fine, token_again, complete}
 
 -- how many tokens are left behind the value, or at the fault
 abbrev pub tokens_left : {A : Type 0} → Outcome A → ℕ
@@ -107,6 +107,7 @@ fault_passes (alt f g) ts left e =
 fault_passes (star f) ts left e =
     each_fault (spells f) (viable f) (first f) (read f) (λ us a rest h. sound f us a rest h) (λ us n h. fault_passes f us n h) (length ts) ts left e
 fault_passes (map h f) ts left e = fault_passes f ts left (with_value_err h (read f ts) left e)
+fault_passes (at f) ts left e = fault_passes f ts left (with_value_err (λ a. (place ts, a)) (read f ts) left e)
 
 passed_at : {A : Type 0} (f : Rule A) (ts : List Token) (r : Outcome A) → read f ts ≡ r → Passes (viable f) ts (tokens_left r)
 passed_at f ts (Ok (a, rest)) is =
@@ -253,3 +254,5 @@ viable_passed (star f) e xs rest (ys, zs, vs, cut, p, q) =
     } in
     each_left (spells f) (viable f) (read f) (nullable f) (first f) (more f) part vs xs ys zs rest (length (xs ++ rest)) cut p q (omega arith)
 viable_passed (map h f) e xs rest p = with_value_fits h (read f (xs ++ rest)) (length rest) (viable_passed f e xs rest p)
+viable_passed (at f) e xs rest p =
+    with_value_fits (λ a. (place (xs ++ rest), a)) (read f (xs ++ rest)) (length rest) (viable_passed f (at_fine (fine f) (nullable f) e).0 xs rest p)

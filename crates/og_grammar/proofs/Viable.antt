@@ -3,7 +3,7 @@ use Rattle.std.proofs.Common.{◌≡◌, Bool, List, [], ◌∷◌, ◌++◌, �
 use Rattle.std.proofs.lemmas.List.{append-nil}
 use Rattle.og_lex.specs.declared.token.Token.{Token}
 use Rattle.og_lex.specs.declared.token.Kind.{Kind}
-use Rattle.og_grammar.specs.Rule.{Rule, one, give, seq, alt, star, map, spells, viable, IsToken, EachInTurn, BeginsToken, BeginsEach}
+use Rattle.og_grammar.specs.Rule.{Rule, one, give, seq, alt, star, map, at, spells, viable, IsToken, EachInTurn, BeginsToken, BeginsEach}
 
 pub viable_nil : {A : Type 0} (f : Rule A) → viable f []
 viable_nil (one k test) = inl refl
@@ -12,6 +12,7 @@ viable_nil (seq f g) = inl (viable_nil f)
 viable_nil (alt f g) = inl (viable_nil f)
 viable_nil (star f) = ([], [], [], refl, refl, viable_nil f)
 viable_nil (map h f) = viable_nil f
+viable_nil (at f) = viable_nil f
 
 pub viable_spelled : {A : Type 0} (f : Rule A) (ts : List Token) (a : A) → spells f ts a → viable f ts
 viable_spelled (one k test) ts a p = inr (a, p)
@@ -21,6 +22,7 @@ viable_spelled (alt f g) ts a (inl p) = inl (viable_spelled f ts a p)
 viable_spelled (alt f g) ts a (inr p) = inr (viable_spelled g ts a p)
 viable_spelled (star f) ts a p = (ts, [], a, sym (append-nil ts), p, viable_nil f)
 viable_spelled (map h f) ts a (b, p, value) = viable_spelled f ts b p
+viable_spelled (at f) ts a p = viable_spelled f ts a.1 p.1
 
 -- one whole part more in front
 pub one_before : {A : Type 0} (whole : List Token → A → Type 0) (begins : List Token → Type 0) (us ts xs : List Token) (v : A) → xs ≡ us ++ ts → whole us v
@@ -90,3 +92,4 @@ viable_front (alt f g) ts xs ys e (inr p) = inr (viable_front g ts xs ys e p)
 viable_front (star f) ts xs ys e (ps, qs, vs, cut, p, q) =
     each_front (spells f) (viable f) (λ us v h. viable_spelled f us v h) (λ us ws zs h b. viable_front f us ws zs h b) vs xs ys ps qs (sym e ∙ cut) p q
 viable_front (map h f) ts xs ys e p = viable_front f ts xs ys e p
+viable_front (at f) ts xs ys e p = viable_front f ts xs ys e p

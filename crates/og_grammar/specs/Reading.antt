@@ -3,7 +3,7 @@
 use Rattle.std.specs.Prelude.{Bool, true, false, not, ◌&&◌, ◌||◌, ℕ, zero, suc, if◌then◌else◌, List, [], ◌∷◌, ◌++◌, length, ◌-◌, Result, Ok, Err}
 use Rattle.og_lex.specs.declared.token.Token.{Token}
 use Rattle.og_lex.specs.declared.token.Kind.{Kind}
-use Rattle.og_grammar.specs.Rule.{Rule, one, give, seq, alt, star, map, same_kind}
+use Rattle.og_grammar.specs.Rule.{Rule, one, give, seq, alt, star, map, at, same_kind}
 
 -- ---- sets of kinds
 
@@ -41,6 +41,7 @@ nullable (seq f g) = nullable f && nullable g
 nullable (alt f g) = nullable f || nullable g
 nullable (star f) = true
 nullable (map h f) = nullable f
+nullable (at f) = nullable f
 
 -- the kinds that a first token may have
 abbrev pub first : {A : Type 0} → Rule A → List Kind
@@ -50,6 +51,7 @@ first (seq f g) = first f ++ kinds_if (nullable f) (first g)
 first (alt f g) = first f ++ first g
 first (star f) = first f
 first (map h f) = first f
+first (at f) = first f
 
 -- the kinds with which the rule would go on where it could also end
 abbrev pub more : {A : Type 0} → Rule A → List Kind
@@ -59,8 +61,9 @@ more (seq f g) = more g ++ kinds_if (nullable g) (more f)
 more (alt f g) = more f ++ (more g ++ kinds_if (nullable g) (first f))
 more (star f) = more f ++ first f
 more (map h f) = more f
+more (at f) = more f
 
--- the next token alone says how the rule goes on
+-- The next token alone says how the rule goes on, and a part with a place has a token.
 abbrev pub fine : {A : Type 0} → Rule A → Bool
 fine (one k test) = true
 fine (give a) = true
@@ -68,6 +71,7 @@ fine (seq f g) = fine f && (fine g && apart (more f) (first g))
 fine (alt f g) = fine f && (fine g && (not (nullable f) && apart (first f) (first g)))
 fine (star f) = fine f && (not (nullable f) && apart (more f) (first f))
 fine (map h f) = fine f
+fine (at f) = fine f && not (nullable f)
 
 -- ---- reading
 
@@ -88,6 +92,11 @@ with_value h (Err left) = Err left
 -- the values that were found before, in front of those that the rest gives
 abbrev pub with_front : {A : Type 0} → List A → Outcome (List A) → Outcome (List A)
 with_front found = with_value (λ vs. found ++ vs)
+
+-- where the first token stands
+unfoldable pub place : List Token → ℕ
+place [] = 0
+place (t ∷ ts) = t.start
 
 -- the next token, where it is of the kind and passes the test, and else a fault at it
 unfoldable pub read_token : Kind → (Token → Bool) → List Token → Outcome Token
@@ -114,6 +123,7 @@ read (seq f g) = λ ts. and_then (read f ts) (λ a rest. with_value (λ b. (a, b
 read (alt f g) = λ ts. if sees_any (first f) ts then read f ts else read g ts
 read (star f) = read_all (first f) (read f)
 read (map h f) = λ ts. with_value h (read f ts)
+read (at f) = λ ts. with_value (λ a. (place ts, a)) (read f ts)
 
 -- The value, where no token is left, and else the index of the first one that is left. A fault has its
 -- index likewise.

@@ -62,6 +62,17 @@ impl<'a> Tokens<'a> {
         self.rest.is_empty()
     }
 
+    /// Where the next token stands in the text, and 0 behind the last.
+    #[tactic(auto, unfolding(crate::specs::Reading::place))]
+    pub fn place(&self) -> u32
+        ensures { result ≡ reading.place self.now }
+    {
+        match self.rest {
+            [next, ..] => next.start,
+            [] => 0,
+        }
+    }
+
     /// Whether the next token is of the kind.
     #[tactic(auto, unfolding(crate::specs::Reading::sees))]
     pub fn sees(&self, kind: Kind) -> bool
