@@ -1,19 +1,19 @@
 -- What is spelled is read, whatever follows that the rule wouldn't go on with.
-use Rattle.std.proofs.Common.{◌≡◌, ℕ, zero, suc, ◌≤◌, Bool, true, false, not, ◌&&◌, List, [], ◌∷◌, ◌++◌, length, Some, inl, inr, refl, ap, arith, append_assoc, length-append}
-use Rattle.std.proofs.lemmas.Bool.{and_parts, not-true}
+use Rattle.std.proofs.Common.{◌≡◌, ℕ, zero, suc, ◌≤◌, Bool, true, false, not, ◌&&◌, List, [], ◌∷◌, ◌++◌, length, Ok, inl, inr, refl, sym, ◌∙◌, ap, arith, append_assoc, length-append}
+use Rattle.std.proofs.lemmas.Bool.{and_parts, not-true, false≢true}
 use Rattle.og_lex.specs.declared.token.Token.{Token}
 use Rattle.og_lex.specs.declared.token.Kind.{Kind}
-use Rattle.og_grammar.specs.Rule.{Rule, one, give, seq, alt, star, map, spells, IsToken, EachInTurn}
-use Rattle.og_grammar.specs.Reading.{apart, kinds_if, sees_any, nullable, first, more, fine, Outcome, and_then, with_value, read_token, read_each, read_all, read}
+use Rattle.og_grammar.specs.Rule.{Rule, one, give, seq, alt, star, map, at, spells, IsPlaceOf, IsToken, EachInTurn}
+use Rattle.og_grammar.specs.Reading.{apart, kinds_if, sees_any, nullable, first, more, fine, Outcome, and_then, with_value, read_token, read_each, read_all, read, place}
 use Rattle.og_grammar.proofs.KindSets.{sees_none, sees_apart, stops_left, stops_right}
 use Rattle.og_grammar.proofs.Starts.{Starts, starts, starts_each}
 
-token_again : (k : Kind) (test : Token → Bool) (xs rest : List Token) (t : Token) → IsToken k test xs t → read_token k test (xs ++ rest) ≡ Some (t, rest)
+pub token_again : (k : Kind) (test : Token → Bool) (xs rest : List Token) (t : Token) → IsToken k test xs t → read_token k test (xs ++ rest) ≡ Ok (t, rest)
 unfolding read_token
 token_again k test xs rest t p = rw (p.0, p.1, p.2) refl
 
-seq_again : {A B : Type 0} (r : Outcome A) (g : List Token → Outcome B) (a : A) (b : B) (mid rest : List Token) → r ≡ Some (a, mid) → g mid ≡ Some (b, rest)
-    → and_then {B = A × B} r (λ x more. with_value (λ y. (x, y)) (g more)) ≡ Some ((a, b), rest)
+seq_again : {A B : Type 0} (r : Outcome A) (g : List Token → Outcome B) (a : A) (b : B) (mid rest : List Token) → r ≡ Ok (a, mid) → g mid ≡ Ok (b, rest)
+    → and_then {B = A × B} r (λ x more. with_value (λ y. (x, y)) (g more)) ≡ Ok ((a, b), rest)
 seq_again r g a b mid rest p q = rw (p, q) refl
 
 -- What is spelled behind a part doesn't go on with it, nor what comes after both.
@@ -32,9 +32,9 @@ seen_length ks (t ∷ ts) e = omega arith
 
 each_again : {A : Type 0} (f : List Token → A → Type 0) (item : List Token → Outcome A) (b : Bool) (firsts mores : List Kind) → b ≡ false → apart mores firsts ≡ true
     → ((xs : List Token) (a : A) → f xs a → Starts b firsts xs)
-    → ((xs rest : List Token) (a : A) → f xs a → sees_any mores rest ≡ false → item (xs ++ rest) ≡ Some (a, rest))
+    → ((xs rest : List Token) (a : A) → f xs a → sees_any mores rest ≡ false → item (xs ++ rest) ≡ Ok (a, rest))
     → (vs : List A) (xs rest : List Token) (n : ℕ) → EachInTurn f xs vs → sees_any mores rest ≡ false → sees_any firsts rest ≡ false → length (xs ++ rest) ≤ n
-    → read_each firsts item n (xs ++ rest) ≡ Some (vs, rest)
+    → read_each firsts item n (xs ++ rest) ≡ Ok (vs, rest)
 unfolding read_each
 each_again f item b firsts mores e set begin again [] xs rest zero p s t le = rw p refl
 each_again f item b firsts mores e set begin again [] xs rest (suc n) p s t le = rw (p, t) refl
@@ -53,18 +53,27 @@ each_again f item b firsts mores e set begin again (v ∷ vs) xs rest (suc n) (y
     let others_are = each_again f item b firsts mores e set begin again vs zs rest n q s t fits in
     rw (same, seen, one_is, others_are) refl
 
-seq_fine : (a b c : Bool) → (a && (b && c)) ≡ true → (a ≡ true) × (b ≡ true) × (c ≡ true)
+pub seq_fine : (a b c : Bool) → (a && (b && c)) ≡ true → (a ≡ true) × (b ≡ true) × (c ≡ true)
 seq_fine a b c e = let p = and_parts a (b && c) e in let q = and_parts b c p.1 in (p.0, q.0, q.1)
 
 -- a rule of two, or three, that is fine
-alt_fine : (a b c d : Bool) → (a && (b && (not c && d))) ≡ true → (a ≡ true) × (b ≡ true) × (c ≡ false) × (d ≡ true)
+pub alt_fine : (a b c d : Bool) → (a && (b && (not c && d))) ≡ true → (a ≡ true) × (b ≡ true) × (c ≡ false) × (d ≡ true)
 alt_fine a b c d e =
     let p = seq_fine a b (not c && d) e in let q = and_parts (not c) d p.2 in (p.0, p.1, not-true c q.0, q.1)
 
 pub star_fine : (a b c : Bool) → (a && (not b && c)) ≡ true → (a ≡ true) × (b ≡ false) × (c ≡ true)
 star_fine a b c e = let p = seq_fine a (not b) c e in (p.0, not-true b p.1, p.2)
 
-pub complete : {A : Type 0} (f : Rule A) → fine f ≡ true → (xs rest : List Token) (a : A) → spells f xs a → sees_any (more f) rest ≡ false → read f (xs ++ rest) ≡ Some (a, rest)
+pub at_fine : (a b : Bool) → (a && not b) ≡ true → (a ≡ true) × (b ≡ false)
+at_fine a b e = let p = and_parts a (not b) e in (p.0, not-true b p.1)
+
+-- what begins with a token has its place
+same_place : (ks : List Kind) (xs rest : List Token) (n : ℕ) → sees_any ks (xs ++ []) ≡ true → IsPlaceOf xs n → place (xs ++ rest) ≡ n
+unfolding place
+same_place ks [] rest n seen p = let none = sees_none ks in absurd (false≢true (sym none ∙ seen))
+same_place ks (t ∷ xs) rest n seen p = sym p
+
+pub complete : {A : Type 0} (f : Rule A) → fine f ≡ true → (xs rest : List Token) (a : A) → spells f xs a → sees_any (more f) rest ≡ false → read f (xs ++ rest) ≡ Ok (a, rest)
 unfolding read_all
 complete (one k test) e xs rest a p s = token_again k test xs rest a p
 complete (give b) e xs rest a p s = rw (p.0, p.1) refl
@@ -90,3 +99,7 @@ complete (star f) e xs rest a p s =
     each_again (spells f) (read f) (nullable f) (first f) (more f) fines.1 fines.2 (λ ys b q. starts f ys b q) (λ ys after b q stop. complete f fines.0 ys after b q stop)
     a xs rest (length (xs ++ rest)) p (stops_left (more f) (first f) rest s) (stops_right (more f) (first f) rest s) (omega arith)
 complete (map h f) e xs rest a (b, p, value) s = rw (complete f e xs rest b p s, value) refl
+complete (at f) e xs rest a (p, q) s =
+    let fines = at_fine (fine f) (nullable f) e in
+    let here = same_place (first f) xs rest a.0 (begins (nullable f) (first f) xs [] fines.1 (starts f xs a.1 q)) p in
+    rw (complete f fines.0 xs rest a.1 q s, here) refl

@@ -5,4 +5,7 @@ pub mod SameKinds
 pub mod Sound
 pub mod StarReading
 pub mod Starts
+pub mod TokensLeft
+pub mod Verdict
+pub mod Viable
 pub mod Whole

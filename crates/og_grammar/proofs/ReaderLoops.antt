@@ -1,6 +1,6 @@
 -- The goals of a loop that reads items while the next token begins one. It keeps that the tokens of the
 -- call are read as what was found, in front of what the rest is read as.
-use Rattle.std.proofs.Common.{◌≡◌, ◌<◌, true, false, List, [], ◌∷◌, ◌++◌, length, Some, Result, Ok, Err}
+use Rattle.std.proofs.Common.{◌≡◌, ◌<◌, true, false, List, [], ◌∷◌, ◌++◌, length, Result, Ok, Err}
 use Rattle.og_lex.specs.declared.token.Token.{Token}
 use Rattle.og_grammar.specs.declared.fault.Fault.{Fault}
 use Rattle.og_grammar.specs.declared.fault.Fault.TheVariants.{Memory, Syntax}
@@ -24,9 +24,9 @@ pub each_fails : {A : Type 0} (rule : Rule (List A)) (item : Rule A) (old ts new
     → read rule old ≡ with_front found (read (star item) ts) → sees_any (first item) ts ≡ true → Reads item ts (Err e) new → r ≡ Err d → d ≡ e
     → Reads rule old r last
 each_fails rule item old ts new last found r Memory d keep s is err same = rw (err, same) tt
-each_fails rule item old ts new last found r Syntax d keep s is err same = rw (err, same) (many_fails item (read rule old) found ts keep s is)
+each_fails rule item old ts new last found r (Syntax left) d keep s is err same = rw (err, same) (many_fails item (read rule old) found ts left keep s is)
 
 -- no item comes next
 pub each_ends : {A : Type 0} (rule : Rule (List A)) (item : Rule A) (old ts : List Token) (found : List A) → read rule old ≡ with_front found (read (star item) ts)
-    → sees_any (first item) ts ≡ false → read rule old ≡ Some (found, ts)
+    → sees_any (first item) ts ≡ false → read rule old ≡ Ok (found, ts)
 each_ends rule item old ts found keep s = many_done item (read rule old) found ts keep s

@@ -1,11 +1,10 @@
 -- What is read is spelled.
-use Rattle.std.proofs.Common.{◌≡◌, ℕ, zero, suc, Bool, ◌&&◌, List, [], ◌∷◌, ◌++◌, length, Some, None, inl, inr, refl, sym, ◌∙◌, ap, append_assoc}
+use Rattle.std.proofs.Common.{◌≡◌, ℕ, zero, suc, Bool, ◌&&◌, List, [], ◌∷◌, ◌++◌, length, Ok, Err, inl, inr, refl, sym, ◌∙◌, ap, append_assoc}
 use Rattle.std.proofs.lemmas.Bool.{cases_Bool, and_parts}
-use Rattle.std.proofs.lemmas.Option.{some_pair_parts, none-some}
 use Rattle.og_lex.specs.declared.token.Token.{Token}
 use Rattle.og_lex.specs.declared.token.Kind.{Kind}
-use Rattle.og_grammar.specs.Rule.{Rule, one, give, seq, alt, star, map, same_kind, spells, IsToken, InTurn, EachInTurn}
-use Rattle.og_grammar.specs.Reading.{sees_any, first, Outcome, and_then, with_value, read_token, read_each, read_all, read}
+use Rattle.og_grammar.specs.Rule.{Rule, one, give, seq, alt, star, map, at, same_kind, spells, IsPlaceOf, WithPlace, IsToken, InTurn, EachInTurn}
+use Rattle.og_grammar.specs.Reading.{sees_any, first, Outcome, and_then, with_value, read_token, read_each, read_all, read, place}
 
 -- The tokens begin with some that are spelled for the value, and go on with the rest.
 pub record Reads {A : Type 0} (f : List Token → A → Type 0) (ts : List Token) (a : A) (rest : List Token) : Type 0 where
@@ -13,28 +12,37 @@ pub record Reads {A : Type 0} (f : List Token → A → Type 0) (ts : List Token
   pub cut : ts ≡ front ++ rest
   pub spelled : f front a
 
+-- one outcome has one value, and one rest
+pub same_value : {A : Type 0} (r : Outcome A) (a b : A) (xs ys : List Token) → r ≡ Ok (a, xs) → r ≡ Ok (b, ys) → (a ≡ b) × (xs ≡ ys)
+same_value {A} r a b xs ys e f =
+    let p : ◌≡◌ {A = A × List Token} (a, xs) (b, ys) = cc in (ap (λ q. q.0) p, ap (λ q. q.1) p)
+
+-- a fault is no value
+pub no_value : {A : Type 0} (r : Outcome A) (left : ℕ) (a : A) (rest : List Token) → r ≡ Err left → r ≡ Ok (a, rest) → ⊥
+no_value r left a rest e f = cc
+
 -- what each part of two steps gave
-and_then_some : {A B : Type 0} (r : Outcome A) (g : A → List Token → Outcome B) (v : B × List Token) → and_then r g ≡ Some v
-    → (a : A) × (mid : List Token) × (r ≡ Some (a, mid)) × (g a mid ≡ Some v)
-and_then_some None g v e = cc
-and_then_some (Some (a, mid)) g v e = (a, mid, refl, e)
+and_then_ok : {A B : Type 0} (r : Outcome A) (g : A → List Token → Outcome B) (v : B × List Token) → and_then r g ≡ Ok v
+    → (a : A) × (mid : List Token) × (r ≡ Ok (a, mid)) × (g a mid ≡ Ok v)
+and_then_ok (Ok (a, mid)) g v e = (a, mid, refl, e)
+and_then_ok (Err left) g v e = cc
 
-with_value_some : {A B : Type 0} (h : A → B) (r : Outcome A) (b : B) (rest : List Token) → with_value h r ≡ Some (b, rest)
-    → (a : A) × (r ≡ Some (a, rest)) × (b ≡ h a)
-with_value_some h None b rest e = cc
-with_value_some h (Some (a, mid)) b rest e =
-    let parts = some_pair_parts (h a) b mid rest e in (a, ap (λ ts. Some (a, ts)) parts.1, sym parts.0)
+with_value_ok : {A B : Type 0} (h : A → B) (r : Outcome A) (b : B) (rest : List Token) → with_value h r ≡ Ok (b, rest)
+    → (a : A) × (r ≡ Ok (a, rest)) × (b ≡ h a)
+with_value_ok h (Ok (a, mid)) b rest e =
+    let parts = same_value (Ok (h a, mid)) (h a) b mid rest refl e in (a, ap (λ ts. Ok (a, ts)) parts.1, sym parts.0)
+with_value_ok h (Err left) b rest e = cc
 
-token_read : (k : Kind) (test : Token → Bool) (ts : List Token) (t : Token) (rest : List Token) → read_token k test ts ≡ Some (t, rest) → Reads (IsToken k test) ts t rest
+token_read : (k : Kind) (test : Token → Bool) (ts : List Token) (t : Token) (rest : List Token) → read_token k test ts ≡ Ok (t, rest) → Reads (IsToken k test) ts t rest
 unfolding read_token
 token_read k test [] t rest e = cc
 token_read k test (u ∷ us) t rest e =
     elim (cases_Bool (same_kind u.kind k && test u)) [
       | inl p ↦
-          let parts = some_pair_parts u t us rest (rw p at e) in
+          let parts = same_value (Ok (u, us)) u t us rest refl (rw p at e) in
           let both = and_parts (same_kind u.kind k) (test u) p in
           record { front = u ∷ []; cut = ap (λ more. u ∷ more) parts.1; spelled = rw (← parts.0) (refl, both.0, both.1) }
-      | inr p ↦ absurd (none-some (t, rest) (rw p at e))
+      | inr p ↦ absurd (no_value {A = Token} (Err (length (u ∷ us))) (length (u ∷ us)) t rest refl (rw p at e))
     ]
 
 seq_read : {A B : Type 0} (f : List Token → A → Type 0) (g : List Token → B → Type 0) (ts mid rest : List Token) (a : A) (b : B) (v : A × B) → v ≡ (a, b)
@@ -54,33 +62,41 @@ each_more f ts mid rest a others vs e p q = record {
 }
 
 each_read : {A : Type 0} (f : List Token → A → Type 0) (ks : List Kind) (item : List Token → Outcome A)
-    → ((ts : List Token) (a : A) (rest : List Token) → item ts ≡ Some (a, rest) → Reads f ts a rest)
-    → (n : ℕ) (ts : List Token) (vs : List A) (rest : List Token) → read_each ks item n ts ≡ Some (vs, rest) → Reads (EachInTurn f) ts vs rest
+    → ((ts : List Token) (a : A) (rest : List Token) → item ts ≡ Ok (a, rest) → Reads f ts a rest)
+    → (n : ℕ) (ts : List Token) (vs : List A) (rest : List Token) → read_each ks item n ts ≡ Ok (vs, rest) → Reads (EachInTurn f) ts vs rest
 unfolding read_each
 each_read f ks item told zero ts vs rest e =
-    let parts = some_pair_parts [] vs ts rest e in record { front = []; cut = parts.1; spelled = rw (← parts.0) refl }
+    let parts = same_value (Ok ([], ts)) [] vs ts rest refl e in record { front = []; cut = parts.1; spelled = rw (← parts.0) refl }
 each_read f ks item told (suc n) ts vs rest e =
     elim (cases_Bool (sees_any ks ts)) [
       | inl p ↦
           let q = rw p at e in
-          let (a, mid, one_is, others_are) = and_then_some (item ts) _ (vs, rest) q in
-          let (others, read_is, value_is) = with_value_some (λ more. a ∷ more) (read_each ks item n mid) vs rest others_are in
+          let (a, mid, one_is, others_are) = and_then_ok (item ts) _ (vs, rest) q in
+          let (others, read_is, value_is) = with_value_ok (λ more. a ∷ more) (read_each ks item n mid) vs rest others_are in
           let head = told ts a mid one_is in
           let tail = each_read f ks item told n mid others rest read_is in
           each_more f ts mid rest a others vs value_is head tail
       | inr p ↦
-          let parts = some_pair_parts [] vs ts rest (rw p at e) in
+          let parts = same_value (Ok ([], ts)) [] vs ts rest refl (rw p at e) in
           record { front = []; cut = parts.1; spelled = rw (← parts.0) refl }
     ]
 
-pub sound : {A : Type 0} (f : Rule A) (ts : List Token) (a : A) (rest : List Token) → read f ts ≡ Some (a, rest) → Reads (spells f) ts a rest
+place_of : (front rest ts : List Token) → ts ≡ front ++ rest → IsPlaceOf front (place ts)
+unfolding place
+place_of [] rest ts e = tt
+place_of (t ∷ front) rest ts e = rw e refl
+
+place_read : {A : Type 0} (f : List Token → A → Type 0) (ts rest : List Token) (a : A) (v : ℕ × A) → v ≡ (place ts, a) → Reads f ts a rest → Reads (WithPlace f) ts v rest
+place_read f ts rest a v e r = record { front = r.front; cut = r.cut; spelled = rw e (place_of r.front rest ts r.cut, r.spelled) }
+
+pub sound : {A : Type 0} (f : Rule A) (ts : List Token) (a : A) (rest : List Token) → read f ts ≡ Ok (a, rest) → Reads (spells f) ts a rest
 unfolding read_all
 sound (one k test) ts a rest e = token_read k test ts a rest e
 sound (give b) ts a rest e =
-    let parts = some_pair_parts b a ts rest e in record { front = []; cut = parts.1; spelled = (refl, sym parts.0) }
+    let parts = same_value (Ok (b, ts)) b a ts rest refl e in record { front = []; cut = parts.1; spelled = (refl, sym parts.0) }
 sound (seq f g) ts v rest e =
-    let (a, mid, f_is, g_is) = and_then_some (read f ts) _ (v, rest) e in
-    let (b, read_is, value_is) = with_value_some (λ b. (a, b)) (read g mid) v rest g_is in
+    let (a, mid, f_is, g_is) = and_then_ok (read f ts) _ (v, rest) e in
+    let (b, read_is, value_is) = with_value_ok (λ b. (a, b)) (read g mid) v rest g_is in
     seq_read (spells f) (spells g) ts mid rest a b v value_is (sound f ts a mid f_is) (sound g mid b rest read_is)
 sound (alt f g) ts a rest e =
     elim (cases_Bool (sees_any (first f) ts)) [
@@ -89,6 +105,9 @@ sound (alt f g) ts a rest e =
     ]
 sound (star f) ts a rest e = each_read (spells f) (first f) (read f) (λ us b after h. sound f us b after h) (length ts) ts a rest e
 sound (map h f) ts b rest e =
-    let (a, read_is, value_is) = with_value_some h (read f ts) b rest e in
+    let (a, read_is, value_is) = with_value_ok h (read f ts) b rest e in
     let r = sound f ts a rest read_is in
     record { front = r.front; cut = r.cut; spelled = (a, r.spelled, value_is) }
+sound (at f) ts v rest e =
+    let (a, read_is, value_is) = with_value_ok (λ b. (place ts, b)) (read f ts) v rest e in
+    place_read (spells f) ts rest a v value_is (sound f ts a rest read_is)

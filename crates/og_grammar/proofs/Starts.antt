@@ -1,8 +1,8 @@
--- How a spelled list begins.
+-- How a spelled list begins, and a viable one.
 use Rattle.std.proofs.Common.{◌≡◌, Bool, true, false, ◌&&◌, ◌||◌, List, [], ◌∷◌, ◌++◌, ◌⊎◌, inl, inr, refl, append_assoc}
 use Rattle.og_lex.specs.declared.token.Token.{Token}
 use Rattle.og_lex.specs.declared.token.Kind.{Kind}
-use Rattle.og_grammar.specs.Rule.{Rule, one, give, seq, alt, star, map, same_kind, spells, EachInTurn}
+use Rattle.og_grammar.specs.Rule.{Rule, one, give, seq, alt, star, map, at, same_kind, spells, viable, EachInTurn}
 use Rattle.og_grammar.specs.Reading.{sees, sees_any, nullable, first, kinds_if}
 use Rattle.std.proofs.lemmas.Bool.{or_left, or_right}
 use Rattle.og_grammar.proofs.KindSets.{sees_left, sees_right}
@@ -49,3 +49,31 @@ starts (alt f g) xs a (inl p) = starts_left (nullable f) (nullable g) (first f) 
 starts (alt f g) xs a (inr p) = starts_right (nullable f) (nullable g) (first f) (first g) xs (starts g xs a p)
 starts (star f) xs a p = starts_each (nullable f) (first f) (spells f) (λ ys v. starts f ys v) a xs p
 starts (map h f) xs a p = starts f xs p.0 p.1
+starts (at f) xs a p = starts f xs a.1 p.1
+
+-- ---- viable lists
+
+starts_or_empty : (b : Bool) (ks : List Kind) (xs : List Token) → Starts b ks xs → Starts true ks xs
+starts_or_empty b ks xs (inl (p, q)) = inl (p, refl)
+starts_or_empty b ks xs (inr f) = inr f
+
+-- parts in turn, and behind them some that begin as a part does
+pub starts_after : {A : Type 0} (b : Bool) (ks : List Kind) (f : List Token → A → Type 0) → ((xs : List Token) (a : A) → f xs a → Starts b ks xs)
+    → (vs : List A) (xs ys zs : List Token) → xs ≡ ys ++ zs → EachInTurn f ys vs → Starts true ks zs → Starts true ks xs
+starts_after b ks f item vs xs ys zs e p q = starts_next true ks xs ys zs e (starts_each b ks f item vs ys p) q
+
+-- a viable list is empty, or begins with a first kind
+pub viable_starts : {A : Type 0} (f : Rule A) (xs : List Token) → viable f xs → Starts true (first f) xs
+viable_starts (one k test) xs (inl p) = inl (p, refl)
+viable_starts (one k test) xs (inr (t, p)) = starts_or_empty false (k ∷ []) xs (starts_one k t xs p.0 p.1)
+viable_starts (give a) xs p = inl (p, refl)
+viable_starts (seq f g) xs (inl p) = starts_left true true (first f) (kinds_if (nullable f) (first g)) xs (viable_starts f xs p)
+viable_starts (seq f g) xs (inr (ys, zs, a, cut, p, q)) =
+    starts_or_empty (nullable f && true) (first f ++ kinds_if (nullable f) (first g)) xs
+    (starts_seq (nullable f) true (first f) (first g) xs ys zs cut (starts f ys a p) (viable_starts g zs q))
+viable_starts (alt f g) xs (inl p) = starts_left true true (first f) (first g) xs (viable_starts f xs p)
+viable_starts (alt f g) xs (inr p) = starts_right true true (first f) (first g) xs (viable_starts g xs p)
+viable_starts (star f) xs (ys, zs, vs, cut, p, q) =
+    starts_after (nullable f) (first f) (spells f) (λ us v h. starts f us v h) vs xs ys zs cut p (viable_starts f zs q)
+viable_starts (map h f) xs p = viable_starts f xs p
+viable_starts (at f) xs p = viable_starts f xs p

@@ -1,9 +1,9 @@
 -- How a rule is read with no step back: by the kind of the next token alone. A rule for which that is
 -- right is called fine.
-use Rattle.std.specs.Prelude.{Bool, true, false, not, ◌&&◌, ◌||◌, ℕ, zero, suc, if◌then◌else◌, List, [], ◌∷◌, ◌++◌, length, Option, Some, None}
+use Rattle.std.specs.Prelude.{Bool, true, false, not, ◌&&◌, ◌||◌, ℕ, zero, suc, if◌then◌else◌, List, [], ◌∷◌, ◌++◌, length, ◌-◌, Result, Ok, Err}
 use Rattle.og_lex.specs.declared.token.Token.{Token}
 use Rattle.og_lex.specs.declared.token.Kind.{Kind}
-use Rattle.og_grammar.specs.Rule.{Rule, one, give, seq, alt, star, map, same_kind}
+use Rattle.og_grammar.specs.Rule.{Rule, one, give, seq, alt, star, map, at, same_kind}
 
 -- ---- sets of kinds
 
@@ -41,6 +41,7 @@ nullable (seq f g) = nullable f && nullable g
 nullable (alt f g) = nullable f || nullable g
 nullable (star f) = true
 nullable (map h f) = nullable f
+nullable (at f) = nullable f
 
 -- the kinds that a first token may have
 abbrev pub first : {A : Type 0} → Rule A → List Kind
@@ -50,6 +51,7 @@ first (seq f g) = first f ++ kinds_if (nullable f) (first g)
 first (alt f g) = first f ++ first g
 first (star f) = first f
 first (map h f) = first f
+first (at f) = first f
 
 -- the kinds with which the rule would go on where it could also end
 abbrev pub more : {A : Type 0} → Rule A → List Kind
@@ -59,8 +61,9 @@ more (seq f g) = more g ++ kinds_if (nullable g) (more f)
 more (alt f g) = more f ++ (more g ++ kinds_if (nullable g) (first f))
 more (star f) = more f ++ first f
 more (map h f) = more f
+more (at f) = more f
 
--- the next token alone says how the rule goes on
+-- The next token alone says how the rule goes on, and a part with a place has a token.
 abbrev pub fine : {A : Type 0} → Rule A → Bool
 fine (one k test) = true
 fine (give a) = true
@@ -68,58 +71,66 @@ fine (seq f g) = fine f && (fine g && apart (more f) (first g))
 fine (alt f g) = fine f && (fine g && (not (nullable f) && apart (first f) (first g)))
 fine (star f) = fine f && (not (nullable f) && apart (more f) (first f))
 fine (map h f) = fine f
+fine (at f) = fine f && not (nullable f)
 
 -- ---- reading
 
--- a value and the tokens after it, or nothing
+-- a value and the tokens after it, or how many tokens are left at the fault
 abbrev pub Outcome : Type 0 → Type 0
-Outcome A = Option (A × List Token)
+Outcome A = Result (A × List Token) ℕ
 
 -- goes on with the value and the tokens after it
 abbrev pub and_then : {A B : Type 0} → Outcome A → (A → List Token → Outcome B) → Outcome B
-and_then None f = None
-and_then (Some v) f = f v.0 v.1
+and_then (Ok v) f = f v.0 v.1
+and_then (Err left) f = Err left
 
 -- the same tokens after another value
 abbrev pub with_value : {A B : Type 0} → (A → B) → Outcome A → Outcome B
-with_value h None = None
-with_value h (Some v) = Some (h v.0, v.1)
+with_value h (Ok v) = Ok (h v.0, v.1)
+with_value h (Err left) = Err left
 
 -- the values that were found before, in front of those that the rest gives
 abbrev pub with_front : {A : Type 0} → List A → Outcome (List A) → Outcome (List A)
 with_front found = with_value (λ vs. found ++ vs)
 
--- the next token, where it is of the kind and passes the test
+-- where the first token stands
+unfoldable pub place : List Token → ℕ
+place [] = 0
+place (t ∷ ts) = t.start
+
+-- the next token, where it is of the kind and passes the test, and else a fault at it
 unfoldable pub read_token : Kind → (Token → Bool) → List Token → Outcome Token
-read_token k test [] = None
-read_token k test (t ∷ ts) = if same_kind t.kind k && test t then Some (t, ts) else None
+read_token k test [] = Err 0
+read_token k test (t ∷ ts) = if same_kind t.kind k && test t then Ok (t, ts) else Err (length (t ∷ ts))
 
 -- values in turn while the next token is of one of the kinds, at most so many
 unfoldable pub read_each : {A : Type 0} → List Kind → (List Token → Outcome A) → ℕ → List Token → Outcome (List A)
-read_each ks item zero ts = Some ([], ts)
+read_each ks item zero ts = Ok ([], ts)
 read_each ks item (suc n) ts =
     if sees_any ks ts then and_then (item ts) (λ v rest. with_value (λ vs. v ∷ vs) (read_each ks item n rest))
-    else Some ([], ts)
+    else Ok ([], ts)
 
 -- Each turn takes a token, so there are at most as many turns as tokens.
 unfoldable pub read_all : {A : Type 0} → List Kind → (List Token → Outcome A) → List Token → Outcome (List A)
 read_all ks item ts = read_each ks item (length ts) ts
 
--- The value that the rule spells at the front of the tokens, by the next token alone. It is defined for
--- any rule, and right for a fine one.
+-- The value that the rule spells at the front of the tokens, by the next token alone, or the fault at the
+-- first token with which nothing is spelled. It is defined for any rule, and right for a fine one.
 abbrev pub read : {A : Type 0} → Rule A → List Token → Outcome A
 read (one k test) = read_token k test
-read (give a) = λ ts. Some (a, ts)
+read (give a) = λ ts. Ok (a, ts)
 read (seq f g) = λ ts. and_then (read f ts) (λ a rest. with_value (λ b. (a, b)) (read g rest))
 read (alt f g) = λ ts. if sees_any (first f) ts then read f ts else read g ts
 read (star f) = read_all (first f) (read f)
 read (map h f) = λ ts. with_value h (read f ts)
+read (at f) = λ ts. with_value (λ a. (place ts, a)) (read f ts)
 
--- the value, where no token is left
-abbrev pub value_at_end : {A : Type 0} → Outcome A → Option A
-value_at_end None = None
-value_at_end (Some v) = elim (v.1) [ [] ↦ Some v.0 | t ∷ ts ↦ None ]
+-- The value, where no token is left, and else the index of the first one that is left. A fault has its
+-- index likewise.
+abbrev pub value_at_end : {A : Type 0} → ℕ → Outcome A → Result A ℕ
+value_at_end count (Ok v) = elim (v.1) [ [] ↦ Ok v.0 | t ∷ ts ↦ Err (count - length (t ∷ ts)) ]
+value_at_end count (Err left) = Err (count - left)
 
--- the value that the whole list is read as
-abbrev pub read_whole : {A : Type 0} → Rule A → List Token → Option A
-read_whole f ts = value_at_end (read f ts)
+-- the value that the whole list is read as, or the index of the token at which it goes wrong
+abbrev pub read_whole : {A : Type 0} → Rule A → List Token → Result A ℕ
+read_whole f ts = value_at_end (length ts) (read f ts)

@@ -22,6 +22,8 @@ pub data Rule : Type 0 → Type 1 where
   star : {A : Type 0} → Rule A → Rule (List A)
   -- what the function makes of a value
   map : {A B : Type 0} → (A → B) → Rule A → Rule B
+  -- the place of the first token, and a value
+  at : {A : Type 0} → Rule A → Rule (ℕ × A)
 
 -- a number for each kind, whatever value a number has
 abbrev pub kind_number : Kind → ℕ
@@ -50,6 +52,15 @@ abbrev pub EachInTurn : {A : Type 0} → (List Token → A → Type 0) → List 
 EachInTurn f ts [] = ts ≡ []
 EachInTurn f ts (v ∷ vs) = (xs : List Token) × (ys : List Token) × (ts ≡ xs ++ ys) × f xs v × EachInTurn f ys vs
 
+-- where the first token stands; of no tokens it says nothing
+abbrev pub IsPlaceOf : List Token → ℕ → Type 0
+IsPlaceOf [] place = Unit {0}
+IsPlaceOf (t ∷ ts) place = place ≡ t.start
+
+-- a list for a value, with the place of its first token
+abbrev pub WithPlace : {A : Type 0} → (List Token → A → Type 0) → List Token → ℕ × A → Type 0
+WithPlace f ts v = IsPlaceOf ts v.0 × f ts v.1
+
 -- the tokens are spelled by the rule, for the value
 abbrev pub spells : {A : Type 0} → Rule A → List Token → A → Type 0
 spells (one k test) = IsToken k test
@@ -58,3 +69,32 @@ spells (seq f g) = InTurn (spells f) (spells g)
 spells (alt f g) = λ ts v. spells f ts v ⊎ spells g ts v
 spells (star f) = EachInTurn (spells f)
 spells (map {A} h f) = λ ts v. (a : A) × spells f ts a × (v ≡ h a)
+spells (at f) = WithPlace (spells f)
+
+-- ---- how a spelled list may begin
+
+-- no token, or one of the kind that passes the test
+abbrev pub BeginsToken : Kind → (Token → Bool) → List Token → Type 0
+BeginsToken k test ts = (ts ≡ []) ⊎ ((t : Token) × IsToken k test ts t)
+
+-- what the first part may begin with, or the whole of it with what the other may begin with behind it
+abbrev pub BeginsInTurn :
+    {A : Type 0} → (List Token → Type 0) → (List Token → A → Type 0) → (List Token → Type 0) → List Token → Type 0
+BeginsInTurn {A} begins whole next ts =
+    begins ts ⊎ ((xs : List Token) × (ys : List Token) × (a : A) × (ts ≡ xs ++ ys) × whole xs a × next ys)
+
+-- as many whole parts as there are values, none at the least, with what one more may begin with behind them
+abbrev pub BeginsEach : {A : Type 0} → (List Token → A → Type 0) → (List Token → Type 0) → List Token → Type 0
+BeginsEach {A} whole begins ts =
+    (xs : List Token) × (ys : List Token) × (vs : List A) × (ts ≡ xs ++ ys) × EachInTurn whole xs vs × begins ys
+
+-- The tokens are the first ones of what the rule may spell: parts that are spelled, none at the least,
+-- and behind them some that are viable for the next part.
+abbrev pub viable : {A : Type 0} → Rule A → List Token → Type 0
+viable (one k test) = BeginsToken k test
+viable (give a) = λ ts. ts ≡ []
+viable (seq f g) = BeginsInTurn (viable f) (spells f) (viable g)
+viable (alt f g) = λ ts. viable f ts ⊎ viable g ts
+viable (star f) = BeginsEach (spells f) (viable f)
+viable (map h f) = viable f
+viable (at f) = viable f

@@ -5,8 +5,9 @@ use std::alloc::AllocError;
 pub enum Fault {
     /// There was no memory for a value.
     Memory,
-    /// The next token doesn't go on with what was read.
-    Syntax,
+    /// The next token doesn't go on with what was read. So many tokens are left from it on; at the end
+    /// of the tokens there are none.
+    Syntax(usize),
 }
 
 impl From<AllocError> for Fault {

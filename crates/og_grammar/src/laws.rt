@@ -4,7 +4,7 @@ ghost use Rattle.std.specs.Prelude.{◌≡◌, ◌↔◌, true, IsTrue, List, �
 ghost use Rattle.og_lex.specs.declared.token.Kind.{Kind};
 ghost use Rattle.og_grammar.specs.Rule.{Rule, same_kind};
 ghost use Rattle.og_grammar.specs.Reading.{fine};
-ghost use Rattle.og_grammar.specs.Laws.{IsSound, IsComplete, IsSingle, IsExact, IsSameKind};
+ghost use Rattle.og_grammar.specs.Laws.{IsSound, IsComplete, IsSingle, IsDecided, IsExact, HasFronts, IsSameKind};
 
 /// Two kinds are one to a grammar exactly where they are equal, but for the value of a number.
 pub fn same_kinds()
@@ -37,7 +37,20 @@ pub fn single_value<L: Language>()
     ensures { (text : List ℕ) → IsSingle (L.rule text) }
 {}
 
-/// Reading a whole list gives a value exactly where one is spelled.
+/// The empty list is viable, what is spelled is, and so is each front of what is. A viable list that
+/// isn't empty begins with one of the rule's first kinds.
+pub fn viable_fronts<L: Language>()
+    ensures { (text : List ℕ) → HasFronts (L.rule text) }
+{}
+
+/// Reading a whole list gives its verdict: the value that it spells, or the index of the token at which
+/// it goes wrong. The tokens before that one may begin what is spelled and those through it may not; at
+/// the end of the list, it may begin what is spelled and spells nothing.
 pub fn exact_reading<L: Language>()
     ensures { (text : List ℕ) → IsExact (L.rule text) }
+{}
+
+/// A list of tokens has at most one verdict: one value and no fault, or one fault and no value.
+pub fn single_verdict<L: Language>()
+    ensures { (text : List ℕ) → IsDecided (L.rule text) }
 {}

@@ -7,5 +7,8 @@ mod laws;
 mod tokens;
 
 pub use fault::Fault;
-pub use laws::{Language, exact_reading, same_kinds, single_value, sound_reading, whole_reading};
+pub use laws::{
+    Language, exact_reading, same_kinds, single_value, single_verdict, sound_reading,
+    viable_fronts, whole_reading,
+};
 pub use tokens::Tokens;

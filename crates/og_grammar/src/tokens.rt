@@ -1,4 +1,4 @@
-ghost use Rattle.std.specs.Prelude.{◌≡◌, ◌↔◌, [], length, IsTrue, Err};
+ghost use Rattle.std.specs.Prelude.{◌≡◌, ◌↔◌, [], length, IsTrue, IfErr, Err};
 ghost use Rattle.og_grammar.specs.Rule as rule;
 ghost use Rattle.og_grammar.specs.Combinators.{token};
 ghost use Rattle.og_grammar.specs.Reading as reading;
@@ -62,6 +62,17 @@ impl<'a> Tokens<'a> {
         self.rest.is_empty()
     }
 
+    /// Where the next token stands in the text, and 0 behind the last.
+    #[tactic(auto, unfolding(crate::specs::Reading::place))]
+    pub fn place(&self) -> u32
+        ensures { result ≡ reading.place self.now }
+    {
+        match self.rest {
+            [next, ..] => next.start,
+            [] => 0,
+        }
+    }
+
     /// Whether the next token is of the kind.
     #[tactic(auto, unfolding(crate::specs::Reading::sees))]
     pub fn sees(&self, kind: Kind) -> bool
@@ -73,10 +84,12 @@ impl<'a> Tokens<'a> {
         }
     }
 
-    /// Takes the next token, which has to be of the kind. It never wants memory.
+    /// Takes the next token, which has to be of the kind. Where it isn't, the tokens stay as they were.
+    /// It never wants memory.
     #[tactic(auto, unfolding(crate::specs::Reading::read_token))]
     pub fn take(&mut self, kind: Kind) -> Result<Token, Fault>
         ensures read { Reads (token kind) self.old result self.new }
+        ensures refused { IfErr result (λ _. self.new ≡ self.old) }
         ensures no_memory { result ≡ Err Fault.Memory → ⊥ }
     {
         match self.rest {
@@ -85,7 +98,7 @@ impl<'a> Tokens<'a> {
                 self.rest = rest;
                 Ok(next)
             }
-            _ => Err(Fault::Syntax),
+            _ => Err(Fault::Syntax(self.left())),
         }
     }
 }

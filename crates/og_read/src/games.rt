@@ -132,7 +132,7 @@ pub fn read_game(
                 Ok(None)
             }
         }
-        Err(Fault::Syntax) => Ok(None),
+        Err(Fault::Syntax(_)) => Ok(None),
         Err(Fault::Memory) => Err(AllocError),
     }
 }

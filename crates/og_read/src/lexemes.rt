@@ -86,10 +86,11 @@ pub(crate) fn names(
 pub(crate) fn main_name(text: &[u8], tokens: &mut Tokens<'_>) -> Result<Token, Fault>
     ensures { Reads (spec.main text.now) tokens.old result tokens.new }
 {
+    let left = tokens.left();
     let token = tokens.take(Kind::Name)?;
     if part(text, token.start as usize, token.end as usize) == b"main".as_slice() {
         Ok(token)
     } else {
-        Err(Fault::Syntax)
+        Err(Fault::Syntax(left))
     }
 }

@@ -66,7 +66,7 @@ pub fn read_strategy(
                 Ok(None)
             }
         }
-        Err(Fault::Syntax) => Ok(None),
+        Err(Fault::Syntax(_)) => Ok(None),
         Err(Fault::Memory) => Err(AllocError),
     }
 }

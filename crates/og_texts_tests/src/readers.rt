@@ -1,4 +1,7 @@
-use og_grammar::{exact_reading, same_kinds, single_value, sound_reading, whole_reading};
+use og_grammar::{
+    exact_reading, same_kinds, single_value, single_verdict, sound_reading, viable_fronts,
+    whole_reading,
+};
 use og_lex::{MAX_TEXT, Token, lex};
 use og_list::List;
 use og_read::{SmallGames, Strategies, one_game, one_strategy, read_game, read_strategy};
@@ -184,7 +187,9 @@ fn laws() {
     sound_reading::<SmallGames>();
     whole_reading::<SmallGames>();
     single_value::<SmallGames>();
+    viable_fronts::<SmallGames>();
     exact_reading::<Strategies>();
+    single_verdict::<Strategies>();
     one_game();
     one_strategy();
 }

@@ -1,4 +1,4 @@
-use Rattle.og_grammar.proofs.Whole.{IsExact-rule}
+use Rattle.og_grammar.proofs.Verdict.{IsExact-rule}
 use Rattle.og_grammar.proofs.laws.exact_reading.Goals as goal
 
 pub returns : goal.returns

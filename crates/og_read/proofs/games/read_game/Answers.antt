@@ -1,4 +1,4 @@
-use Rattle.og_grammar.proofs.Whole.{spelled_to_end, unspelled_none, unspelled_rest}
+use Rattle.og_grammar.proofs.Whole.{spelled_to_end, unspelled_fault, unspelled_rest}
 use Rattle.og_read.specs.Grammar.{game}
 use Rattle.og_read.specs.laws.Fine.{game_fine}
 use Rattle.og_read.proofs.games.read_game.Goals as goal
@@ -15,4 +15,4 @@ returns-else-is_done c =
 
 pub returns-in-Err-Syntax : goal.returns-in-Err-Syntax
 returns-in-Err-Syntax c =
-    unspelled_none (game c.args.text.now) (game_fine c.args.text.now) c.args.tokens.now (rw (c.in-Err-Syntax.field-0-is, c.new-rest.ensures) at c.in-Err-Syntax.ensures)
+    unspelled_fault (game c.args.text.now) (game_fine c.args.text.now) c.args.tokens.now _ (rw (c.in-Err-Syntax.field-0-is, c.new-rest.ensures) at c.in-Err-Syntax.ensures)

@@ -1,0 +1,5 @@
+use Rattle.og_grammar.proofs.Whole.{HasFronts-rule}
+use Rattle.og_grammar.proofs.laws.viable_fronts.Goals as goal
+
+pub returns : goal.returns
+returns g c text = HasFronts-rule (g.L.Language.rule text)
