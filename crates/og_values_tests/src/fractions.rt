@@ -1,5 +1,6 @@
 ghost use Rattle.std.specs.Prelude.{◌≡◌, ◌↔◌, IsTrue};
 
+use crate::equal::check_equal;
 use og_frac::{Frac, FracFault, Sum, SumFault, Term, Wide};
 use std::alloc::Global;
 use std::cmp::Ordering;
@@ -22,36 +23,37 @@ fn frac(rt: &impl Abort, n: i64, d: u64) -> Frac {
     Frac::new(n, d).expect(rt, "a fraction that fits")
 }
 
+const LOWEST_TERMS: [(i64, u64, Result<(i64, u64), FracFault>); 14] = [
+    (6, 4, Ok((3, 2))),
+    (-6, 4, Ok((-3, 2))),
+    (0, 7, Ok((0, 1))),
+    (1, 0, Err(FracFault::Zero)),
+    (0, 0, Err(FracFault::Zero)),
+    (LEAST, 1, Err(FracFault::Passes)),
+    (LEAST, 2, Ok((-4_611_686_018_427_387_904, 1))),
+    (LEAST, 3, Err(FracFault::Passes)),
+    (LEAST, 9_223_372_036_854_775_808, Ok((-1, 1))),
+    (MOST, 1, Ok((MOST, 1))),
+    (-MOST, 1, Ok((-MOST, 1))),
+    (
+        -1,
+        9_223_372_036_854_775_807,
+        Ok((-1, 9_223_372_036_854_775_807)),
+    ),
+    (1, 9_223_372_036_854_775_808, Err(FracFault::Passes)),
+    (
+        2,
+        9_223_372_036_854_775_808,
+        Ok((1, 4_611_686_018_427_387_904)),
+    ),
+];
+
 #[test]
 fn fractions_in_lowest_terms(rt: HostRuntime) {
-    let rows = [
-        (6, 4, Ok((3, 2))),
-        (-6, 4, Ok((-3, 2))),
-        (0, 7, Ok((0, 1))),
-        (1, 0, Err(FracFault::Zero)),
-        (0, 0, Err(FracFault::Zero)),
-        (LEAST, 1, Err(FracFault::Passes)),
-        (LEAST, 2, Ok((-4_611_686_018_427_387_904, 1))),
-        (LEAST, 3, Err(FracFault::Passes)),
-        (LEAST, 9_223_372_036_854_775_808, Ok((-1, 1))),
-        (MOST, 1, Ok((MOST, 1))),
-        (-MOST, 1, Ok((-MOST, 1))),
-        (
-            -1,
-            9_223_372_036_854_775_807,
-            Ok((-1, 9_223_372_036_854_775_807)),
-        ),
-        (1, 9_223_372_036_854_775_808, Err(FracFault::Passes)),
-        (
-            2,
-            9_223_372_036_854_775_808,
-            Ok((1, 4_611_686_018_427_387_904)),
-        ),
-    ];
-    for (n, d, want) in rows {
-        assert_eq!(rt; parts(Frac::new(n, d)), want);
+    for (n, d, want) in LOWEST_TERMS {
+        check_equal(&rt, parts(Frac::new(n, d)), want);
     }
-    assert_eq!(rt; parts(Ok(Frac::whole(-7))), Ok((-7, 1)));
+    check_equal(&rt, parts(Ok(Frac::whole(-7))), Ok((-7, 1)));
 }
 
 #[test]
@@ -87,7 +89,7 @@ fn arithmetic(rt: HostRuntime) {
         (most.ratio(most, seven), Ok((1, 1))),
     ];
     for (answer, want) in rows {
-        assert_eq!(rt; parts(answer), want);
+        check_equal(&rt, parts(answer), want);
     }
 }
 
@@ -98,46 +100,51 @@ fn same(a: Frac, b: Frac) -> bool
     a == b
 }
 
+/// Two fractions, and how the first stands to the second.
+const ORDERS: [(i64, u64, i64, u64, Ordering); 4] = [
+    (1, 2, 1, 3, Ordering::Greater),
+    (-1, 2, 1, 3, Ordering::Less),
+    (-1, 2, -1, 3, Ordering::Less),
+    (1, 2, 2, 4, Ordering::Equal),
+];
+
 #[test]
 fn order_by_value(rt: HostRuntime) {
-    let half = frac(&rt, 1, 2);
-    let third = frac(&rt, 1, 3);
-    let minus_half = frac(&rt, -1, 2);
-    let minus_third = frac(&rt, -1, 3);
-    let rows = [
-        (half, third, Ordering::Greater),
-        (minus_half, third, Ordering::Less),
-        (minus_half, minus_third, Ordering::Less),
-        (half, frac(&rt, 2, 4), Ordering::Equal),
-    ];
-    for (first, second, want) in rows {
-        assert_eq!(rt; first.cmp(&second), want);
-        assert_eq!(rt; first.partial_cmp(&second), Some(want));
+    for (n, d, other_n, other_d, want) in ORDERS {
+        let first = frac(&rt, n, d);
+        let second = frac(&rt, other_n, other_d);
+        check_equal(&rt, first.cmp(&second), want);
+        check_equal(&rt, first.partial_cmp(&second), Some(want));
     }
-    let tests = [
-        third < half,
-        minus_half <= minus_third,
-        std::cmp::max(minus_half, minus_third) == minus_third,
-        same(half, frac(&rt, 2, 4)),
-        !same(half, minus_half),
-    ];
-    assert_eq!(rt; tests, [true; 5]);
 }
 
 #[test]
+fn operators_compare_by_value(rt: HostRuntime) {
+    let half = frac(&rt, 1, 2);
+    let minus_half = frac(&rt, -1, 2);
+    let minus_third = frac(&rt, -1, 3);
+    assert!(rt; frac(&rt, 1, 3) < half);
+    assert!(rt; minus_half <= minus_third);
+    assert!(rt; std::cmp::max(minus_half, minus_third) == minus_third);
+    assert!(rt; same(half, frac(&rt, 2, 4)));
+    assert!(rt; !same(half, minus_half));
+}
+
+const FLOORS: [(i64, u64, i64); 8] = [
+    (3, 2, 1),
+    (-3, 2, -2),
+    (-4, 2, -2),
+    (0, 5, 0),
+    (-1, 3, -1),
+    (-7, 3, -3),
+    (7, 1, 7),
+    (-MOST, 1, -MOST),
+];
+
+#[test]
 fn floors(rt: HostRuntime) {
-    let rows = [
-        (3, 2, 1),
-        (-3, 2, -2),
-        (-4, 2, -2),
-        (0, 5, 0),
-        (-1, 3, -1),
-        (-7, 3, -3),
-        (7, 1, 7),
-        (-MOST, 1, -MOST),
-    ];
-    for (n, d, want) in rows {
-        assert_eq!(rt; frac(&rt, n, d).floor(), want);
+    for (n, d, want) in FLOORS {
+        check_equal(&rt, frac(&rt, n, d).floor(), want);
     }
 }
 
@@ -163,76 +170,70 @@ fn parts_of_sum(
     times: u64,
 ) -> Result<(u64, u128, i128), SumFault> {
     let sum = Sum::of(terms, times.max(1))?;
-    assert_eq!(rt; Sum::part(terms, sum.common), sum.value);
+    check_equal(rt, Sum::part(terms, sum.common), sum.value);
     Ok((sum.common, sum.absolute, sum.value))
 }
 
-/// A sum of terms, with these weights, numerators and denominators, has these parts or passes.
-fn check(
-    rt: &impl Abort,
-    alloc: Global,
-    parts: &[(u64, i64, u64)],
-    times: u64,
-    want: Result<(u64, u128, i128), SumFault>,
-) {
-    let made = terms(rt, alloc, parts);
-    assert_eq!(rt; parts_of_sum(rt, made.as_slice(), times), want);
-}
+/// Weights, numerators and denominators, how many times they are taken, and the parts of their sum.
+const SUMS: [(&[(u64, i64, u64)], u64, Result<(u64, u128, i128), SumFault>); 13] = [
+    (&[], 1, Ok((1, 0, 0))),
+    (&[(2, 1, 2), (3, 1, 3)], 5, Ok((6, 12, 12))),
+    (&[(2, 1, 2), (3, -1, 3)], 5, Ok((6, 12, 0))),
+    (&[(1 << 62, POWER, 1)], 3, Ok((1, 1 << 124, 1 << 124))),
+    (&[(1 << 62, POWER, 1)], 4, Err(SumFault::Passes)),
+    (
+        &[(1 << 62, POWER, 1), (1 << 62, -POWER, 1)],
+        1,
+        Ok((1, 1 << 125, 0)),
+    ),
+    (
+        &[(1 << 62, POWER, 1), (1 << 62, -POWER, 1)],
+        2,
+        Err(SumFault::Passes),
+    ),
+    // At the bounds: 27 * 341606371735362067 is 2^63 + 1, and 2 * (2^62 - 1) is 2^63 - 2.
+    (
+        &[(1, -1, 9_223_372_036_854_775_807)],
+        1,
+        Ok((9_223_372_036_854_775_807, 1, -1)),
+    ),
+    (
+        &[(1, 1, 2), (1, -1, 4_611_686_018_427_387_903)],
+        1,
+        Ok((
+            9_223_372_036_854_775_806,
+            4_611_686_018_427_387_905,
+            4_611_686_018_427_387_901,
+        )),
+    ),
+    (
+        &[(1, 1, 27), (1, -1, 341_606_371_735_362_067)],
+        1,
+        Err(SumFault::Passes),
+    ),
+    // (2^63 + 1) * (2^63 - 1) is 2^126 - 1.
+    (
+        &[(9_223_372_036_854_775_809, -MOST, 1)],
+        1,
+        Ok((1, (1 << 126) - 1, 1 - (1 << 126))),
+    ),
+    (
+        &[(9_223_372_036_854_775_809, -MOST, 1), (1, 1, 1)],
+        1,
+        Err(SumFault::Passes),
+    ),
+    (
+        &[(9_223_372_036_854_775_809, -MOST, 1)],
+        2,
+        Err(SumFault::Passes),
+    ),
+];
 
 #[test]
 fn sums_of_terms(rt: HostRuntime) {
-    let alloc = rt.alloc();
-    let opposite = [(1 << 62, POWER, 1), (1 << 62, -POWER, 1)];
-    let rows: [(&[(u64, i64, u64)], u64, Result<(u64, u128, i128), SumFault>); 6] = [
-        (&[], 1, Ok((1, 0, 0))),
-        (&[(2, 1, 2), (3, 1, 3)], 5, Ok((6, 12, 12))),
-        (&[(2, 1, 2), (3, -1, 3)], 5, Ok((6, 12, 0))),
-        (&[(1 << 62, POWER, 1)], 3, Ok((1, 1 << 124, 1 << 124))),
-        (&[(1 << 62, POWER, 1)], 4, Err(SumFault::Passes)),
-        (&opposite, 1, Ok((1, 1 << 125, 0))),
-    ];
-    for (parts, times, want) in rows {
-        check(&rt, alloc, parts, times, want);
-    }
-    check(&rt, alloc, &opposite, 2, Err(SumFault::Passes));
-}
-
-#[test]
-fn sums_at_the_bounds(rt: HostRuntime) {
-    // 27 * 341606371735362067 is 2^63 + 1, and 2 * (2^62 - 1) is 2^63 - 2.
-    let alloc = rt.alloc();
-    // (2^63 + 1) * (2^63 - 1) is 2^126 - 1.
-    let weight = 9_223_372_036_854_775_809;
-    let rows: [(&[(u64, i64, u64)], u64, Result<(u64, u128, i128), SumFault>); 6] = [
-        (
-            &[(1, -1, 9_223_372_036_854_775_807)],
-            1,
-            Ok((9_223_372_036_854_775_807, 1, -1)),
-        ),
-        (
-            &[(1, 1, 2), (1, -1, 4_611_686_018_427_387_903)],
-            1,
-            Ok((
-                9_223_372_036_854_775_806,
-                4_611_686_018_427_387_905,
-                4_611_686_018_427_387_901,
-            )),
-        ),
-        (
-            &[(1, 1, 27), (1, -1, 341_606_371_735_362_067)],
-            1,
-            Err(SumFault::Passes),
-        ),
-        (
-            &[(weight, -MOST, 1)],
-            1,
-            Ok((1, (1 << 126) - 1, 1 - (1 << 126))),
-        ),
-        (&[(weight, -MOST, 1), (1, 1, 1)], 1, Err(SumFault::Passes)),
-        (&[(weight, -MOST, 1)], 2, Err(SumFault::Passes)),
-    ];
-    for (parts, times, want) in rows {
-        check(&rt, alloc, parts, times, want);
+    for (parts, times, want) in SUMS {
+        let made = terms(&rt, rt.alloc(), parts);
+        check_equal(&rt, parts_of_sum(&rt, made.as_slice(), times), want);
     }
 }
 
@@ -240,17 +241,15 @@ fn sums_at_the_bounds(rt: HostRuntime) {
 fn wide_fractions(rt: HostRuntime) {
     for (num, den, want) in [(-6, 4, (-3, 2)), (0, 1 << 127, (0, 1))] {
         let wide = Wide::new(num, den);
-        assert_eq!(rt; (wide.num, wide.den), want);
+        check_equal(&rt, (wide.num, wide.den), want);
     }
 }
 
 #[test]
 fn printed_text(rt: HostRuntime) {
-    let alloc = rt.alloc();
-    let rows = [(6, 4, "3/2"), (-6, 4, "-3/2"), (-8, 4, "-2"), (0, 7, "0")];
-    for (n, d, want) in rows {
+    for (n, d, want) in [(6, 4, "3/2"), (-6, 4, "-3/2"), (-8, 4, "-2"), (0, 7, "0")] {
         let fraction = frac(&rt, n, d);
-        let text = format!(in alloc; "{fraction}").expect(&rt, "memory");
-        assert!(rt; text.as_str() == want);
+        let text = format!(in rt.alloc(); "{fraction}").expect(&rt, "memory");
+        check_equal(&rt, text.as_str(), want);
     }
 }

@@ -1,9 +1,32 @@
 ghost use Rattle.std.specs.Prelude.{◌≡◌, IfOk};
 
+use crate::equal::check_equal;
 use og_list::{Boxed, List, Text};
 use std::alloc::{AllocError, Global};
+use std::fmt::Debug;
 use std::marker::Model;
-use std::test::Fail;
+use std::process::Abort;
+
+/// A value behind a pointer.
+fn boxed<T: Drop>(rt: &impl Abort, alloc: Global, value: T) -> Boxed<T> {
+    Boxed::new(alloc, value).ok().expect(rt, "memory")
+}
+
+/// The list of these items.
+fn list(rt: &impl Abort, alloc: Global, items: &[u8]) -> List<u8> {
+    List::from_slice(alloc, items).expect(rt, "memory")
+}
+
+fn text(rt: &impl Abort, alloc: Global, text: &str) -> Text {
+    Text::from(alloc, text).expect(rt, "memory")
+}
+
+/// The two print the same for debugging.
+fn check_shown<T: Debug>(rt: &impl Abort, alloc: Global, found: &T, want: &T) {
+    let found = format!(in alloc; "{found:?}").expect(rt, "memory");
+    let want = format!(in alloc; "{want:?}").expect(rt, "memory");
+    check_equal(rt, found.as_str(), want.as_str());
+}
 
 /// A tree that reaches itself through a box and through a list.
 #[derive(Debug, Drop)]
@@ -42,17 +65,15 @@ fn copy_all(parts: &List<Tree>, alloc: Global) -> Result<List<Tree>, AllocError>
 }
 
 #[test]
-fn copies_are_equal(rt: HostRuntime) -> Result<(), Fail> {
+fn copies_are_equal(rt: HostRuntime) {
     let alloc = rt.alloc();
     let mut parts = List::new(alloc);
-    parts.add(Tree::Leaf(3))?;
-    let under = Boxed::new(alloc, Tree::Leaf(4)).ok().ok_or("memory")?;
-    assert_eq!(rt; parts.push(Tree::Under(under)).is_ok(), true);
+    parts.add(Tree::Leaf(3)).expect(&rt, "memory");
+    let under = Tree::Under(boxed(&rt, alloc, Tree::Leaf(4)));
+    check_equal(&rt, parts.push(under).is_ok(), true);
     let tree = Tree::Fork(parts);
-    let made = copy(&tree, alloc)?;
-    let shown = format!(in alloc; "{made:?}")?;
-    assert_eq!(rt; shown, format!(in alloc; "{tree:?}")?);
-    Ok(())
+    let made = copy(&tree, alloc).expect(&rt, "memory");
+    check_shown(&rt, alloc, &made, &tree);
 }
 
 /// One level of an expression, over parts of any kind.
@@ -130,51 +151,46 @@ fn copy_exprs(parts: &List<Expr>, alloc: Global) -> Result<List<Expr>, AllocErro
 }
 
 #[test]
-fn copies_of_expressions(rt: HostRuntime) -> Result<(), Fail> {
+fn copies_of_expressions(rt: HostRuntime) {
     let alloc = rt.alloc();
     let mut parts = List::new(alloc);
-    parts.add(Expr {
-        node: LevelOf::Number(3),
-        depth: 1,
-    })?;
+    parts
+        .add(Expr {
+            node: LevelOf::Number(3),
+            depth: 1,
+        })
+        .expect(&rt, "memory");
     let sum = Expr {
         node: LevelOf::Sum(parts),
         depth: 2,
     };
     let not = Expr {
-        node: LevelOf::Not(Boxed::new(alloc, sum).ok().ok_or("memory")?),
+        node: LevelOf::Not(boxed(&rt, alloc, sum)),
         depth: 3,
     };
-    let made = copy_expr(&not, alloc)?;
-    let shown = format!(in alloc; "{made:?}")?;
-    assert_eq!(rt; shown, format!(in alloc; "{not:?}")?);
-    Ok(())
+    let made = copy_expr(&not, alloc).expect(&rt, "memory");
+    check_shown(&rt, alloc, &made, &not);
 }
 
 #[test]
-fn items_of_a_list(rt: HostRuntime) -> Result<(), Fail> {
-    let alloc = rt.alloc();
-    let mut list = List::new(alloc);
-    assert!(rt; list.is_empty());
-    assert_eq!(rt; list.push(7u8), Ok(()));
-    assert_eq!(rt; list.len(), 1);
-    for (at, want) in [(0, Some(7)), (1, None)] {
-        assert_eq!(rt; list.get(at).copied(), want);
-    }
-    let boxed = Boxed::new(alloc, 5u8).ok().ok_or("memory")?;
-    assert_eq!(rt; boxed.into_inner(), 5);
-    Ok(())
+fn items_of_a_list(rt: HostRuntime) {
+    let mut list = List::new(rt.alloc());
+    check_equal(&rt, list.is_empty(), true);
+    check_equal(&rt, list.push(7u8), Ok(()));
+    check_equal(&rt, list.len(), 1);
+    check_equal(&rt, list.get(0).copied(), Some(7));
+    check_equal(&rt, list.get(1).copied(), None);
+    check_equal(&rt, boxed(&rt, rt.alloc(), 5u8).into_inner(), 5);
 }
 
 #[test]
-fn text_grows(rt: HostRuntime) -> Result<(), Fail> {
-    let alloc = rt.alloc();
-    let mut text = Text::from(alloc, "a")?;
-    assert_eq!(rt; text.as_str(), "a");
-    text.push_str("é")?;
-    assert_eq!(rt; text.copy(alloc)?.as_str(), "aé");
-    assert_eq!(rt; text.len(), 3);
-    Ok(())
+fn text_grows(rt: HostRuntime) {
+    let mut text = text(&rt, rt.alloc(), "a");
+    check_equal(&rt, text.as_str(), "a");
+    text.push_str("é").expect(&rt, "memory");
+    let copy = text.copy(rt.alloc()).expect(&rt, "memory");
+    check_equal(&rt, copy.as_str(), "aé");
+    check_equal(&rt, text.len(), 3);
 }
 
 /// Whether two values are equal, by the bound alone.
@@ -183,33 +199,29 @@ fn same<T: Eq>(first: &T, second: &T) -> bool {
 }
 
 #[test]
-fn equal_lists_hold_the_same(rt: HostRuntime) -> Result<(), Fail> {
+fn equal_lists_hold_the_same(rt: HostRuntime) {
     let alloc = rt.alloc();
-    let list = List::from_slice(alloc, &[1u8, 2])?;
+    let first = list(&rt, alloc, &[1, 2]);
     let rows: [(&[u8], bool); 3] = [(&[1, 2], true), (&[1], false), (&[2, 1], false)];
     for (items, want) in rows {
-        let other = List::from_slice(alloc, items)?;
-        assert_eq!(rt; same(&list, &other), want);
+        check_equal(&rt, same(&first, &list(&rt, alloc, items)), want);
     }
-    Ok(())
 }
 
 #[test]
-fn equal_boxes_hold_the_same(rt: HostRuntime) -> Result<(), Fail> {
+fn equal_boxes_hold_the_same(rt: HostRuntime) {
     let alloc = rt.alloc();
-    let list = List::from_slice(alloc, &[1u8, 2])?;
-    let boxed = Boxed::new(alloc, list).ok().ok_or("memory")?;
-    let other = Boxed::new(alloc, List::new(alloc)).ok().ok_or("memory")?;
-    assert!(rt; same(&boxed, &boxed));
-    assert!(rt; !same(&boxed, &other));
-    Ok(())
+    let first = boxed(&rt, alloc, list(&rt, alloc, &[1, 2]));
+    let other = boxed(&rt, alloc, List::new(alloc));
+    check_equal(&rt, same(&first, &first), true);
+    check_equal(&rt, same(&first, &other), false);
 }
 
 #[test]
-fn equal_texts_have_the_same_bytes(rt: HostRuntime) -> Result<(), Fail> {
+fn equal_texts_have_the_same_bytes(rt: HostRuntime) {
     let alloc = rt.alloc();
-    let text = Text::from(alloc, "ab")?;
-    assert!(rt; same(&text, &text.copy(alloc)?));
-    assert!(rt; !same(&text, &Text::from(alloc, "a")?));
-    Ok(())
+    let first = text(&rt, alloc, "ab");
+    let copy = first.copy(alloc).expect(&rt, "memory");
+    check_equal(&rt, same(&first, &copy), true);
+    check_equal(&rt, same(&first, &text(&rt, alloc, "a")), false);
 }

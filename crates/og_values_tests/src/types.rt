@@ -2,6 +2,7 @@ ghost use Rattle.std.specs.Prelude.{◌≡◌, ◌↔◌, IsTrue, true};
 ghost use Rattle.og_types.specs.Ty.{bounds_fit};
 ghost use Rattle.og_types.specs.Values.{IsSmall};
 
+use crate::equal::check_equal;
 use og_frac::Frac;
 use og_list::{List, Text};
 use og_types::{
@@ -11,52 +12,55 @@ use og_types::{
 use std::alloc::{AllocError, Global};
 use std::cmp::Ordering;
 use std::process::Abort;
-use std::test::Fail;
 
 /// The list of the two items.
-fn pair<T: Drop>(alloc: Global, first: T, second: T) -> Result<List<T>, AllocError> {
+fn pair<T: Drop>(rt: &impl Abort, alloc: Global, first: T, second: T) -> List<T> {
     let mut items = List::new(alloc);
-    items.add(first)?;
-    items.add(second)?;
-    Ok(items)
+    items.add(first).expect(rt, "memory");
+    items.add(second).expect(rt, "memory");
+    items
 }
 
-fn pair_of(alloc: Global, first: Ty, second: Ty) -> Result<Ty, AllocError> {
-    Ok(Ty::Tuple(pair(alloc, first, second)?))
+fn pair_of(rt: &impl Abort, alloc: Global, first: Ty, second: Ty) -> Ty {
+    Ty::Tuple(pair(rt, alloc, first, second))
 }
 
 fn fraction(rt: &impl Abort, n: i64, d: u64) -> Value {
     Value::Number(Frac::new(n, d).expect(rt, "a fraction that fits"))
 }
 
+/// The list of true and a fraction.
+fn list_of_true_and(rt: &impl Abort, alloc: Global, n: i64, d: u64) -> List<Value> {
+    pair(rt, alloc, Value::Flag(true), fraction(rt, n, d))
+}
+
 /// The tuple of true and a fraction.
-fn true_and(rt: &impl Abort, alloc: Global, n: i64, d: u64) -> Result<Value, AllocError> {
-    Ok(Value::Tuple(pair(alloc, Value::Flag(true), fraction(rt, n, d))?))
+fn true_and(rt: &impl Abort, alloc: Global, n: i64, d: u64) -> Value {
+    Value::Tuple(list_of_true_and(rt, alloc, n, d))
 }
 
 /// The texts, as a list.
-fn texts(alloc: Global, names: &[&str]) -> Result<List<Text>, AllocError> {
-    let mut all = List::new(alloc);
-    for name in names {
-        all.add(Text::from(alloc, name)?)?;
-    }
-    Ok(all)
+fn texts(rt: &impl Abort, alloc: Global, first: &str, second: &str) -> List<Text> {
+    let first = Text::from(alloc, first).expect(rt, "memory");
+    let second = Text::from(alloc, second).expect(rt, "memory");
+    pair(rt, alloc, first, second)
 }
 
 /// One enum of two cases.
-fn moves(alloc: Global) -> Result<Enums, AllocError> {
-    let name = Text::from(alloc, "Move")?;
-    let cases = texts(alloc, &["Cooperate", "Defect"])?;
+fn moves(rt: &impl Abort, alloc: Global) -> Enums {
+    let family = Family {
+        name: Text::from(alloc, "Move").expect(rt, "memory"),
+        cases: texts(rt, alloc, "Cooperate", "Defect"),
+    };
     let mut families = List::new(alloc);
-    families.add(Family { name, cases })?;
-    Ok(Enums { families })
+    families.add(family).expect(rt, "memory");
+    Enums { families }
 }
 
-/// Adds the value's text and a space at the end.
-fn add_text(out: &mut Text, alloc: Global, value: &Value, enums: &Enums) -> Result<(), AllocError> {
-    let text = show(alloc, value, enums)?;
-    out.push_str(text.as_str())?;
-    out.push_str(" ")
+/// The value prints as this.
+fn check_text(rt: &impl Abort, alloc: Global, value: &Value, want: &str) {
+    let text = show(alloc, value, &moves(rt, alloc)).expect(rt, "memory");
+    check_equal(rt, text.as_str(), want);
 }
 
 /// Whether the value has this rank, and is the one that stands there.
@@ -70,97 +74,104 @@ fn stands_at(alloc: Global, ty: &Ty, rank: u32, value: &Value) -> Result<bool, A
     }
 }
 
-/// The values of the type are as many as are counted, each has its rank and stands at it, and this is
-/// their text.
-fn check_values(rt: &impl Abort, alloc: Global, ty: &Ty, want: &str) -> Result<(), Fail> {
-    let enums = moves(alloc)?;
-    let mut out = Text::from(alloc, "")?;
+/// The values of the type are as many as are counted, each has its rank and stands at it, and their
+/// tuple prints as this.
+fn check_values(rt: &impl Abort, alloc: Global, ty: &Ty, want: &str) {
     let count = ty.count().expect(rt, "a finite type");
-    assert!(rt; count <= 4096 && ty.bounds_fit(), "a small type");
-    let values = ty.values(alloc)?;
-    assert!(rt; values.len() == count as usize, "as many as are counted");
+    assert!(rt; count <= 4096 && ty.bounds_fit());
+    let values = ty.values(alloc).expect(rt, "memory");
+    check_equal(rt, values.len(), count as usize);
     for (rank, value) in values.as_slice().iter().enumerate() {
-        assert!(rt; stands_at(alloc, ty, rank as u32, value)?, "its place");
-        add_text(&mut out, alloc, value, &enums)?;
+        let stands = stands_at(alloc, ty, rank as u32, value).expect(rt, "memory");
+        check_equal(rt, stands, true);
     }
-    assert!(rt; ty.at_rank(alloc, count)? == None, "none past the last");
-    assert_eq!(rt; out.as_str(), want);
-    Ok(())
+    let past = ty.at_rank(alloc, count).expect(rt, "memory");
+    check_equal(rt, past.is_none(), true);
+    check_text(rt, alloc, &Value::Tuple(values), want);
+}
+
+const LISTINGS: [(Ty, &str); 5] = [
+    (Ty::Bool, "(false, true)"),
+    (Ty::Enum(0, 2), "(Cooperate, Defect)"),
+    (Ty::Range(-2, 1), "(-2, -1, 0, 1)"),
+    (Ty::Range(3, 3), "(3)"),
+    (Ty::Range(1, 0), "()"),
+];
+
+#[test]
+fn values_stand_in_order(rt: HostRuntime) {
+    let alloc = rt.alloc();
+    for (ty, want) in LISTINGS {
+        check_values(&rt, alloc, &ty, want);
+    }
+    check_values(&rt, alloc, &Ty::Tuple(List::new(alloc)), "(())");
 }
 
 #[test]
-fn values_stand_in_order(rt: HostRuntime) -> Result<(), Fail> {
+fn tuples_stand_in_order(rt: HostRuntime) {
     let alloc = rt.alloc();
+    let moves = pair_of(&rt, alloc, Ty::Enum(0, 2), Ty::Bool);
+    let inner = pair_of(&rt, alloc, Ty::Bool, Ty::Range(0, 1));
+    let nested = pair_of(&rt, alloc, inner, Ty::Range(5, 5));
+    let none = pair_of(&rt, alloc, Ty::Range(0, i64::MAX), Ty::Range(1, 0));
     let rows = [
-        (Ty::Bool, "false true "),
-        (Ty::Enum(0, 2), "Cooperate Defect "),
-        (Ty::Range(-2, 1), "-2 -1 0 1 "),
-        (Ty::Range(3, 3), "3 "),
-        (Ty::Range(1, 0), ""),
-        (Ty::Tuple(List::new(alloc)), "() "),
+        (
+            &moves,
+            "((Cooperate, false), (Cooperate, true), (Defect, false), (Defect, true))",
+        ),
+        (
+            &nested,
+            "(((false, 0), 5), ((false, 1), 5), ((true, 0), 5), ((true, 1), 5))",
+        ),
+        (&none, "()"),
     ];
     for (ty, want) in rows {
-        check_values(&rt, alloc, &ty, want)?;
+        check_values(&rt, alloc, ty, want);
     }
-    Ok(())
 }
 
 #[test]
-fn tuples_stand_in_order(rt: HostRuntime) -> Result<(), Fail> {
-    let alloc = rt.alloc();
-    let inner = pair_of(alloc, Ty::Bool, Ty::Range(0, 1))?;
-    let rows = [
-        (
-            Ty::Enum(0, 2),
-            Ty::Bool,
-            "(Cooperate, false) (Cooperate, true) (Defect, false) (Defect, true) ",
-        ),
-        (
-            inner,
-            Ty::Range(5, 5),
-            "((false, 0), 5) ((false, 1), 5) ((true, 0), 5) ((true, 1), 5) ",
-        ),
-        (Ty::Range(0, i64::MAX), Ty::Range(1, 0), ""),
-    ];
-    for (first, second, want) in rows {
-        check_values(&rt, alloc, &pair_of(alloc, first, second)?, want)?;
-    }
-    Ok(())
+fn text_of_a_tuple(rt: HostRuntime) {
+    let value = true_and(&rt, rt.alloc(), 1, 2);
+    check_text(&rt, rt.alloc(), &value, "(true, 1/2)");
 }
+
+const COUNTS: [(Ty, Option<u32>); 9] = [
+    (Ty::Bool, Some(2)),
+    (Ty::Enum(7, 4096), Some(4096)),
+    (Ty::Enum(7, 5000), Some(4097)),
+    (Ty::Range(0, 4094), Some(4095)),
+    (Ty::Range(-1, 4094), Some(4096)),
+    (Ty::Range(0, 4096), Some(4097)),
+    (Ty::Range(i64::MIN, i64::MAX), Some(4097)),
+    (Ty::Range(2, -2), Some(0)),
+    (Ty::Number, None),
+];
 
 #[test]
 fn counts_end_above_the_limit(rt: HostRuntime) {
-    let rows = [
-        (Ty::Bool, Some(2)),
-        (Ty::Enum(7, 4096), Some(4096)),
-        (Ty::Enum(7, 5000), Some(4097)),
-        (Ty::Range(0, 4094), Some(4095)),
-        (Ty::Range(-1, 4094), Some(4096)),
-        (Ty::Range(0, 4096), Some(4097)),
-        (Ty::Range(i64::MIN, i64::MAX), Some(4097)),
-        (Ty::Range(2, -2), Some(0)),
-        (Ty::Tuple(List::new(rt.alloc())), Some(1)),
-        (Ty::Number, None),
-    ];
-    for (ty, want) in rows {
-        assert_eq!(rt; ty.count(), want);
+    for (ty, want) in COUNTS {
+        check_equal(&rt, ty.count(), want);
     }
+    let unit = Ty::Tuple(List::new(rt.alloc()));
+    check_equal(&rt, unit.count(), Some(1));
 }
 
+const PAIR_COUNTS: [(Ty, Ty, Option<u32>); 4] = [
+    (Ty::Range(1, 64), Ty::Range(1, 64), Some(4096)),
+    (Ty::Range(1, 64), Ty::Range(1, 65), Some(4097)),
+    (Ty::Range(i64::MIN, i64::MAX), Ty::Range(1, 0), Some(0)),
+    (Ty::Range(1, 0), Ty::Number, None),
+];
+
 #[test]
-fn counts_of_pairs(rt: HostRuntime) -> Result<(), Fail> {
+fn counts_of_pairs(rt: HostRuntime) {
     let alloc = rt.alloc();
-    let rows = [
-        (Ty::Range(1, 64), Ty::Range(1, 64), Some(4096)),
-        (Ty::Range(1, 64), Ty::Range(1, 65), Some(4097)),
-        (Ty::Range(i64::MIN, i64::MAX), Ty::Range(1, 0), Some(0)),
-        (Ty::Range(1, 0), Ty::Number, None),
-    ];
-    for (first, second, want) in rows {
-        assert_eq!(rt; pair_of(alloc, first, second)?.count(), want);
+    for (first, second, want) in PAIR_COUNTS {
+        check_equal(&rt, pair_of(&rt, alloc, first, second).count(), want);
     }
-    assert!(rt; !pair_of(alloc, Ty::Bool, Ty::Range(i64::MIN, 0))?.bounds_fit());
-    Ok(())
+    let wide = pair_of(&rt, alloc, Ty::Bool, Ty::Range(i64::MIN, 0));
+    check_equal(&rt, wide.bounds_fit(), false);
 }
 
 /// `==` tells whether two lists of values are equal.
@@ -171,63 +182,73 @@ fn same(first: &List<Value>, second: &List<Value>) -> bool
     first == second
 }
 
-#[test]
-fn lists_of_values_have_ranks(rt: HostRuntime) -> Result<(), Fail> {
-    let alloc = rt.alloc();
-    let types = pair(alloc, Ty::Bool, Ty::Range(-1, 1))?;
-    let values = pair(alloc, Value::Flag(true), fraction(&rt, -1, 1))?;
-    let others = pair(alloc, Value::Flag(true), fraction(&rt, 1, 2))?;
-    let none = List::new(alloc);
-    let count = joint_count(&types).expect(&rt, "finite types");
+/// Truths, and the whole numbers from -1 to 1.
+fn flag_and_range(rt: &impl Abort, alloc: Global) -> List<Ty> {
+    pair(rt, alloc, Ty::Bool, Ty::Range(-1, 1))
+}
+
+/// The list has this rank among those of a truth and a whole number from -1 to 1.
+fn check_rank(rt: &impl Abort, alloc: Global, values: &List<Value>, want: Option<u32>) {
+    let types = flag_and_range(rt, alloc);
+    let count = joint_count(&types).expect(rt, "finite types");
     assert!(rt; count <= 4096);
-    for (list, want) in [(&values, Some(3)), (&others, None), (&none, None)] {
-        assert_eq!(rt; joint_rank(&types, list), want);
-        assert_eq!(rt; all_hold(&types, list), want.is_some());
-    }
-    Ok(())
+    check_equal(rt, joint_rank(&types, values), want);
+    check_equal(rt, all_hold(&types, values), want.is_some());
 }
 
 #[test]
-fn lists_of_values_stand_in_order(rt: HostRuntime) -> Result<(), Fail> {
+fn lists_of_values_have_ranks(rt: HostRuntime) {
     let alloc = rt.alloc();
-    let types = pair(alloc, Ty::Bool, Ty::Range(-1, 1))?;
+    check_rank(&rt, alloc, &list_of_true_and(&rt, alloc, -1, 1), Some(3));
+    check_rank(&rt, alloc, &list_of_true_and(&rt, alloc, 1, 2), None);
+    check_rank(&rt, alloc, &List::new(alloc), None);
+}
+
+#[test]
+fn lists_of_values_stand_in_order(rt: HostRuntime) {
+    let alloc = rt.alloc();
+    let types = flag_and_range(&rt, alloc);
     let count = joint_count(&types).expect(&rt, "finite types");
     assert!(rt; count <= 4096 && all_bounds_fit(&types));
-    let all = joint_values(alloc, &types)?;
-    assert_eq!(rt; count, 6);
-    assert_eq!(rt; all.len(), 6);
+    let all = joint_values(alloc, &types).expect(&rt, "memory");
+    check_equal(&rt, count, 6);
+    check_equal(&rt, all.len(), 6);
     for (rank, list) in all.as_slice().iter().enumerate() {
-        assert!(rt; joint_rank(&types, list) == Some(rank as u32));
+        check_equal(&rt, joint_rank(&types, list), Some(rank as u32));
     }
-    Ok(())
+    let values = list_of_true_and(&rt, alloc, -1, 1);
+    check_equal(&rt, all.get(3) == Some(&values), true);
 }
 
 #[test]
-fn list_of_values_at_its_rank(rt: HostRuntime) -> Result<(), Fail> {
+fn list_of_values_at_its_rank(rt: HostRuntime) {
     let alloc = rt.alloc();
-    let types = pair(alloc, Ty::Bool, Ty::Range(-1, 1))?;
-    let values = pair(alloc, Value::Flag(true), fraction(&rt, -1, 1))?;
-    let others = pair(alloc, Value::Flag(true), fraction(&rt, 1, 2))?;
+    let types = flag_and_range(&rt, alloc);
     let count = joint_count(&types).expect(&rt, "finite types");
     assert!(rt; count <= 4096 && all_bounds_fit(&types));
-    let fourth = joint_at_rank(alloc, &types, 3)?.ok_or("the fourth list")?;
-    assert!(rt; same(&fourth, &copy_values(alloc, &values)?));
-    assert!(rt; !same(&fourth, &others));
-    let all = joint_values(alloc, &types)?;
-    assert!(rt; all.get(3).ok_or("the fourth list")? == &values);
-    assert!(rt; joint_at_rank(alloc, &types, 6)? == None);
-    Ok(())
+    let fourth = joint_at_rank(alloc, &types, 3).expect(&rt, "memory");
+    let fourth = fourth.expect(&rt, "the fourth list");
+    let values = list_of_true_and(&rt, alloc, -1, 1);
+    let copy = copy_values(alloc, &values).expect(&rt, "memory");
+    check_equal(&rt, same(&fourth, &copy), true);
+    check_equal(
+        &rt,
+        same(&fourth, &list_of_true_and(&rt, alloc, 1, 2)),
+        false,
+    );
+    let past = joint_at_rank(alloc, &types, 6).expect(&rt, "memory");
+    check_equal(&rt, past.is_none(), true);
 }
 
 #[test]
-fn lists_of_types(rt: HostRuntime) -> Result<(), Fail> {
+fn lists_of_types(rt: HostRuntime) {
     let alloc = rt.alloc();
-    let types = pair(alloc, Ty::Bool, Ty::Range(-1, 1))?;
-    let copies = copy_types(alloc, &types)?;
-    assert!(rt; copies == types && all_fit(&types, &copies));
-    let joined = join_all(alloc, &types, &copies)?.ok_or("joins")?;
-    assert!(rt; joined == types);
-    Ok(())
+    let types = flag_and_range(&rt, alloc);
+    let copies = copy_types(alloc, &types).expect(&rt, "memory");
+    check_equal(&rt, &copies, &types);
+    check_equal(&rt, all_fit(&types, &copies), true);
+    let joined = join_all(alloc, &types, &copies).expect(&rt, "memory");
+    check_equal(&rt, joined.as_ref(), Some(&types));
 }
 
 /// The first type fits the second, or it doesn't, and their join is this one.
@@ -237,117 +258,115 @@ fn check_fit(
     (first, second): (&Ty, &Ty),
     fits: bool,
     join: Option<&Ty>,
-) -> Result<(), Fail> {
-    assert_eq!(rt; first.fits(second), fits, "{first:?} and {second:?}");
-    let found = first.join(alloc, second)?;
-    assert!(rt; found.as_ref() == join, "{first:?} and {second:?}");
-    Ok(())
+) {
+    check_equal(rt, first.fits(second), fits);
+    let found = first.join(alloc, second).expect(rt, "memory");
+    check_equal(rt, found.as_ref(), join);
 }
 
+const FITS: [(Ty, Ty, bool, Option<Ty>); 9] = [
+    (Ty::Bool, Ty::Bool, true, Some(Ty::Bool)),
+    (Ty::Bool, Ty::Number, false, None),
+    (Ty::Enum(0, 2), Ty::Enum(0, 3), false, None),
+    (
+        Ty::Range(0, 1),
+        Ty::Range(2, 3),
+        false,
+        Some(Ty::Range(0, 3)),
+    ),
+    (
+        Ty::Range(-1, 1),
+        Ty::Range(-2, 1),
+        true,
+        Some(Ty::Range(-2, 1)),
+    ),
+    (
+        Ty::Range(0, 2),
+        Ty::Range(-2, 1),
+        false,
+        Some(Ty::Range(-2, 2)),
+    ),
+    (Ty::Range(0, 1), Ty::Number, true, Some(Ty::Number)),
+    (Ty::Number, Ty::Range(0, 1), false, Some(Ty::Number)),
+    (Ty::Number, Ty::Bool, false, None),
+];
+
 #[test]
-fn types_fit_and_join(rt: HostRuntime) -> Result<(), Fail> {
-    let alloc = rt.alloc();
-    let rows = [
-        (Ty::Bool, Ty::Bool, true, Some(Ty::Bool)),
-        (Ty::Bool, Ty::Number, false, None),
-        (Ty::Enum(0, 2), Ty::Enum(0, 3), false, None),
-        (
-            Ty::Range(0, 1),
-            Ty::Range(2, 3),
-            false,
-            Some(Ty::Range(0, 3)),
-        ),
-        (
-            Ty::Range(-1, 1),
-            Ty::Range(-2, 1),
-            true,
-            Some(Ty::Range(-2, 1)),
-        ),
-        (
-            Ty::Range(0, 2),
-            Ty::Range(-2, 1),
-            false,
-            Some(Ty::Range(-2, 2)),
-        ),
-        (Ty::Range(0, 1), Ty::Number, true, Some(Ty::Number)),
-        (Ty::Number, Ty::Range(0, 1), false, Some(Ty::Number)),
-        (Ty::Number, Ty::Bool, false, None),
-    ];
-    for (first, second, fits, join) in rows {
-        check_fit(&rt, alloc, (&first, &second), fits, join.as_ref())?;
+fn types_fit_and_join(rt: HostRuntime) {
+    for (first, second, fits, join) in FITS {
+        check_fit(&rt, rt.alloc(), (&first, &second), fits, join.as_ref());
     }
-    Ok(())
 }
 
 #[test]
-fn tuples_fit_and_join_by_components(rt: HostRuntime) -> Result<(), Fail> {
+fn tuples_fit_and_join_by_components(rt: HostRuntime) {
     let alloc = rt.alloc();
-    let small = pair_of(alloc, Ty::Range(0, 1), Ty::Enum(0, 2))?;
-    let large = pair_of(alloc, Ty::Number, Ty::Enum(0, 2))?;
-    let other = pair_of(alloc, Ty::Number, Ty::Enum(1, 2))?;
+    let small = pair_of(&rt, alloc, Ty::Range(0, 1), Ty::Enum(0, 2));
+    let large = pair_of(&rt, alloc, Ty::Number, Ty::Enum(0, 2));
+    let other = pair_of(&rt, alloc, Ty::Number, Ty::Enum(1, 2));
     let none = Ty::Tuple(List::new(alloc));
-    let rows = [
-        (&small, &large, true, Some(&large)),
-        (&large, &small, false, Some(&large)),
-        (&small, &other, false, None),
-        (&small, &none, false, None),
-        (&none, &none, true, Some(&none)),
-    ];
-    for (first, second, fits, join) in rows {
-        check_fit(&rt, alloc, (first, second), fits, join)?;
-    }
-    Ok(())
+    check_fit(&rt, alloc, (&small, &large), true, Some(&large));
+    check_fit(&rt, alloc, (&large, &small), false, Some(&large));
+    check_fit(&rt, alloc, (&small, &other), false, None);
+    check_fit(&rt, alloc, (&small, &none), false, None);
+    check_fit(&rt, alloc, (&none, &none), true, Some(&none));
+}
+
+/// How the first value stands to the second, and so whether they are equal.
+fn check_order(rt: &impl Abort, first: &Value, second: &Value, want: Ordering) {
+    check_equal(rt, first.order(second), want);
+    check_equal(rt, first == second, want.is_eq());
 }
 
 #[test]
-fn values_are_ordered(rt: HostRuntime) -> Result<(), Fail> {
+fn values_are_ordered(rt: HostRuntime) {
     let alloc = rt.alloc();
-    let first = true_and(&rt, alloc, 1, 3)?;
-    let second = true_and(&rt, alloc, 1, 2)?;
-    let copy = first.copy(alloc)?;
-    let rows = [
-        (&first, &second, Ordering::Less),
-        (&second, &first, Ordering::Greater),
-        (&first, &copy, Ordering::Equal),
-        (&Value::Case(0, 3), &Value::Case(0, 2), Ordering::Greater),
-        (&Value::Flag(false), &Value::Flag(true), Ordering::Less),
-        (&fraction(&rt, -3, 2), &fraction(&rt, -1, 1), Ordering::Less),
-    ];
-    for (value, other, want) in rows {
-        assert_eq!(rt; value.order(other), want);
-        assert_eq!(rt; value == other, want.is_eq());
-    }
-    Ok(())
+    let first = true_and(&rt, alloc, 1, 3);
+    let second = true_and(&rt, alloc, 1, 2);
+    let copy = first.copy(alloc).expect(&rt, "memory");
+    check_order(&rt, &first, &second, Ordering::Less);
+    check_order(&rt, &second, &first, Ordering::Greater);
+    check_order(&rt, &first, &copy, Ordering::Equal);
+    check_order(
+        &rt,
+        &Value::Case(0, 3),
+        &Value::Case(0, 2),
+        Ordering::Greater,
+    );
+    check_order(&rt, &Value::Flag(false), &Value::Flag(true), Ordering::Less);
+    check_order(
+        &rt,
+        &fraction(&rt, -3, 2),
+        &fraction(&rt, -1, 1),
+        Ordering::Less,
+    );
+}
+
+fn check_holds(rt: &impl Abort, ty: &Ty, value: &Value, want: bool) {
+    check_equal(rt, ty.holds(value), want);
 }
 
 #[test]
-fn values_are_of_types(rt: HostRuntime) -> Result<(), Fail> {
+fn values_are_of_types(rt: HostRuntime) {
     let alloc = rt.alloc();
-    let value = true_and(&rt, alloc, 1, 3)?;
-    let exact = pair_of(alloc, Ty::Bool, Ty::Number)?;
-    let whole = pair_of(alloc, Ty::Bool, Ty::Range(0, 1))?;
-    let rows = [
-        (&exact, &value, true),
-        (&whole, &value, false),
-        (&Ty::Range(-2, -1), &fraction(&rt, -2, 1), true),
-        (&Ty::Range(-2, -1), &fraction(&rt, -3, 2), false),
-        (&Ty::Range(-2, -1), &fraction(&rt, 0, 1), false),
-        (&Ty::Enum(0, 2), &Value::Case(0, 2), false),
-        (&Ty::Enum(0, 2), &Value::Case(1, 0), false),
-    ];
-    for (ty, value, want) in rows {
-        assert_eq!(rt; ty.holds(value), want);
-    }
-    Ok(())
-}
-
-#[test]
-fn text_of_a_tuple(rt: HostRuntime) -> Result<(), Fail> {
-    let alloc = rt.alloc();
-    let value = true_and(&rt, alloc, 1, 2)?;
-    let text = show(alloc, &value, &moves(alloc)?)?;
-    assert_eq!(rt; text.as_str(), "(true, 1/2)");
-    Ok(())
+    let value = true_and(&rt, alloc, 1, 3);
+    check_holds(
+        &rt,
+        &pair_of(&rt, alloc, Ty::Bool, Ty::Number),
+        &value,
+        true,
+    );
+    check_holds(
+        &rt,
+        &pair_of(&rt, alloc, Ty::Bool, Ty::Range(0, 1)),
+        &value,
+        false,
+    );
+    check_holds(&rt, &Ty::Range(-2, -1), &fraction(&rt, -2, 1), true);
+    check_holds(&rt, &Ty::Range(-2, -1), &fraction(&rt, -3, 2), false);
+    check_holds(&rt, &Ty::Range(-2, -1), &fraction(&rt, 0, 1), false);
+    check_holds(&rt, &Ty::Enum(0, 2), &Value::Case(0, 2), false);
+    check_holds(&rt, &Ty::Enum(0, 2), &Value::Case(1, 0), false);
 }
 
 /// The lesser of the two, by the bound alone.
@@ -359,37 +378,31 @@ fn lesser<T: Ord + Drop>(first: T, second: T) -> T {
 fn values_are_ord(rt: HostRuntime) {
     let less = fraction(&rt, -3, 2);
     let more = fraction(&rt, -1, 1);
-    assert_eq!(rt; less.cmp(&more), Ordering::Less);
-    assert_eq!(rt; more.partial_cmp(&less), Some(Ordering::Greater));
-    assert!(rt; less < more);
-    assert!(rt; lesser(more, less) == fraction(&rt, -3, 2));
+    check_equal(&rt, less.cmp(&more), Ordering::Less);
+    check_equal(&rt, more.partial_cmp(&less), Some(Ordering::Greater));
+    check_equal(&rt, less < more, true);
+    check_equal(&rt, lesser(more, less), fraction(&rt, -3, 2));
 }
 
 #[test]
-fn names_of_enums_and_cases(rt: HostRuntime) -> Result<(), Fail> {
-    let alloc = rt.alloc();
-    let enums = moves(alloc)?.copy(alloc)?;
-    assert_eq!(rt; enums.families.len(), 1);
-    let rows = [
-        (enums.name(0), Some("Move")),
-        (enums.name(1), None),
-        (enums.case(0, 0), Some("Cooperate")),
-        (enums.case(0, 1), Some("Defect")),
-        (enums.case(0, 2), None),
-        (enums.case(1, 0), None),
-    ];
-    for (name, want) in rows {
-        assert_eq!(rt; name, want);
-    }
-    Ok(())
+fn names_of_enums_and_cases(rt: HostRuntime) {
+    let enums = moves(&rt, rt.alloc());
+    let enums = enums.copy(rt.alloc()).expect(&rt, "memory");
+    check_equal(&rt, enums.families.len(), 1);
+    check_equal(&rt, enums.name(0), Some("Move"));
+    check_equal(&rt, enums.name(1), None);
+    check_equal(&rt, enums.case(0, 0), Some("Cooperate"));
+    check_equal(&rt, enums.case(0, 1), Some("Defect"));
+    check_equal(&rt, enums.case(0, 2), None);
+    check_equal(&rt, enums.case(1, 0), None);
 }
 
 #[test]
-fn copy_of_a_family(rt: HostRuntime) -> Result<(), Fail> {
+fn copy_of_a_family(rt: HostRuntime) {
     let alloc = rt.alloc();
-    let enums = moves(alloc)?;
-    let family = enums.families.get(0).ok_or("a family")?.copy(alloc)?;
-    assert_eq!(rt; family.name.as_str(), "Move");
-    assert!(rt; family.cases == texts(alloc, &["Cooperate", "Defect"])?);
-    Ok(())
+    let enums = moves(&rt, alloc);
+    let family = enums.families.get(0).expect(&rt, "a family");
+    let family = family.copy(alloc).expect(&rt, "memory");
+    check_equal(&rt, family.name.as_str(), "Move");
+    check_equal(&rt, family.cases, texts(&rt, alloc, "Cooperate", "Defect"));
 }
