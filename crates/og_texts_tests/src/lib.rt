@@ -7,3 +7,5 @@ mod readers;
 mod small_games;
 #[cfg(test)]
 mod tokens;
+#[cfg(test)]
+mod told;

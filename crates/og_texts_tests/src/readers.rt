@@ -1,3 +1,4 @@
+use crate::told::{check_told, tell};
 use og_grammar::{
     exact_reading, same_kinds, single_value, single_verdict, sound_reading, viable_fronts,
     whole_reading,
@@ -5,9 +6,9 @@ use og_grammar::{
 use og_lex::{MAX_TEXT, Token, lex};
 use og_list::List;
 use og_read::{SmallGames, Strategies, one_game, one_strategy, read_game, read_strategy};
-use og_small::{Key, Line, Row, Section, SmallGame};
+use og_small::{Key, Line, Row, Section, SmallGame, TypeDecl};
 use std::alloc::Global;
-use std::test::Fail;
+use std::process::Abort;
 
 const DILEMMA: &str = "type Move = { Cooperate , Defect } ;
 game main = block { inputs : ; feedback : ; :-----:
@@ -34,151 +35,150 @@ player2 picks Move as y by y:Move x:Move
 1 for Defect Defect
 ";
 
-fn show_name(shown: &mut String, name: &List<u8>) -> Result<(), Fail> {
-    for byte in name.as_slice() {
-        shown.push(char::from(*byte))?;
-    }
-    Ok(())
+fn tell_name(rt: &impl Abort, told: &mut String, name: &List<u8>) {
+    let text = str::from_utf8(name.as_slice()).ok().expect(rt, "a text");
+    tell(rt, told, text);
 }
 
-fn show_names(shown: &mut String, names: &List<List<u8>>) -> Result<(), Fail> {
+fn tell_names(rt: &impl Abort, told: &mut String, names: &List<List<u8>>) {
     for name in names.as_slice() {
-        shown.push_str(" ")?;
-        show_name(shown, name)?;
+        tell(rt, told, " ");
+        tell_name(rt, told, name);
     }
-    shown.push_str("\n")?;
-    Ok(())
+    tell(rt, told, "\n");
 }
 
-fn show_key(shown: &mut String, key: &Key) -> Result<(), Fail> {
-    shown.push_str(" ")?;
-    show_name(shown, &key.output)?;
-    shown.push_str(":")?;
-    show_name(shown, &key.action)
+fn tell_type(rt: &impl Abort, told: &mut String, declared: &TypeDecl) {
+    tell(rt, told, "type ");
+    tell_name(rt, told, &declared.name);
+    tell(rt, told, ":");
+    tell_names(rt, told, &declared.cases);
 }
 
-fn show_row(alloc: Global, shown: &mut String, row: &Row) -> Result<(), Fail> {
-    let pay = format!(in alloc; "{} for", row.pay)?;
-    shown.push_str(pay.as_str())?;
-    show_names(shown, &row.cases)
+fn tell_key(rt: &impl Abort, told: &mut String, key: &Key) {
+    tell(rt, told, " ");
+    tell_name(rt, told, &key.output);
+    tell(rt, told, ":");
+    tell_name(rt, told, &key.action);
 }
 
-fn show_line(alloc: Global, shown: &mut String, line: &Line) -> Result<(), Fail> {
-    show_name(shown, &line.agent)?;
-    shown.push_str(" picks ")?;
-    show_name(shown, &line.action)?;
-    shown.push_str(" as ")?;
-    show_name(shown, &line.output)?;
-    shown.push_str(" by")?;
+fn tell_row(rt: &impl Abort, alloc: Global, told: &mut String, row: &Row) {
+    let pay = format!(in alloc; "{} for", row.pay).expect(rt, "memory");
+    tell(rt, told, pay.as_str());
+    tell_names(rt, told, &row.cases);
+}
+
+fn tell_line(rt: &impl Abort, alloc: Global, told: &mut String, line: &Line) {
+    tell_name(rt, told, &line.agent);
+    tell(rt, told, " picks ");
+    tell_name(rt, told, &line.action);
+    tell(rt, told, " as ");
+    tell_name(rt, told, &line.output);
+    tell(rt, told, " by");
     for key in line.keys.as_slice() {
-        show_key(shown, key)?;
+        tell_key(rt, told, key);
     }
-    shown.push_str("\n")?;
+    tell(rt, told, "\n");
     for row in line.rows.as_slice() {
-        show_row(alloc, shown, row)?;
+        tell_row(rt, alloc, told, row);
     }
-    Ok(())
 }
 
-fn show_game(alloc: Global, shown: &mut String, game: &SmallGame) -> Result<(), Fail> {
+fn tell_game(rt: &impl Abort, alloc: Global, told: &mut String, game: &SmallGame) {
     for declared in game.types.as_slice() {
-        shown.push_str("type ")?;
-        show_name(shown, &declared.name)?;
-        shown.push_str(":")?;
-        show_names(shown, &declared.cases)?;
+        tell_type(rt, told, declared);
     }
     for line in game.lines.as_slice() {
-        show_line(alloc, shown, line)?;
+        tell_line(rt, alloc, told, line);
     }
-    Ok(())
 }
 
-fn show_section(shown: &mut String, section: &Section) -> Result<(), Fail> {
-    show_name(shown, &section.agent)?;
-    shown.push_str(" picks ")?;
-    show_name(shown, &section.choice)?;
-    shown.push_str("\n")?;
-    Ok(())
+fn tell_section(rt: &impl Abort, told: &mut String, section: &Section) {
+    tell_name(rt, told, &section.agent);
+    tell(rt, told, " picks ");
+    tell_name(rt, told, &section.choice);
+    tell(rt, told, "\n");
 }
 
-fn tokens_of(alloc: Global, text: &str) -> Result<List<Token>, Fail> {
-    if text.len() > MAX_TEXT {
-        return Ok(List::new(alloc));
-    }
-    Ok(lex(alloc, text).ok().ok_or("tokens")?)
+fn tokens_of(rt: &impl Abort, alloc: Global, text: &str) -> List<Token> {
+    assert!(rt; text.len() <= MAX_TEXT);
+    lex(alloc, text).ok().expect(rt, "tokens")
 }
 
 /// Adds the game that the text is read as, or `none`.
-fn tell_game(alloc: Global, text: &str, shown: &mut String) -> Result<(), Fail> {
-    let tokens = tokens_of(alloc, text)?;
-    match read_game(alloc, text.as_bytes(), tokens.as_slice())? {
-        Some(game) => show_game(alloc, shown, &game),
-        None => Ok(shown.push_str("none")?),
+fn tell_read_game(rt: &impl Abort, alloc: Global, text: &str, told: &mut String) {
+    let tokens = tokens_of(rt, alloc, text);
+    let read = read_game(alloc, text.as_bytes(), tokens.as_slice());
+    match read.expect(rt, "memory") {
+        Some(game) => tell_game(rt, alloc, told, &game),
+        None => tell(rt, told, "none"),
     }
 }
 
 /// Adds the strategy that the text is read as, or `none`.
-fn tell_strategy(alloc: Global, text: &str, shown: &mut String) -> Result<(), Fail> {
-    let tokens = tokens_of(alloc, text)?;
-    match read_strategy(alloc, text.as_bytes(), tokens.as_slice())? {
+fn tell_read_strategy(rt: &impl Abort, alloc: Global, text: &str, told: &mut String) {
+    let tokens = tokens_of(rt, alloc, text);
+    let read = read_strategy(alloc, text.as_bytes(), tokens.as_slice());
+    match read.expect(rt, "memory") {
         Some(sections) => {
             for section in sections.as_slice() {
-                show_section(shown, section)?;
+                tell_section(rt, told, section);
             }
         }
-        None => shown.push_str("none")?,
+        None => tell(rt, told, "none"),
     }
-    Ok(())
 }
 
-#[test]
-fn games(rt: HostRuntime) -> Result<(), Fail> {
-    let alloc = rt.alloc();
-    for (text, want) in [
-        (DILEMMA, DILEMMA_SHOWN),
-        ("game main = block { :-----: :-----: } ;", ""),
-        (
-            "type A = { B } ; game main = block { :-----: :-----: } ;",
-            "type A: B\n",
-        ),
-        ("", "none"),
-        ("game other = block { :-----: :-----: } ;", "none"),
-        ("game main = block { :-----: :-----: } ; ;", "none"),
-        ("game main = block { :-----: :-----: }", "none"),
-        (
-            "type A = { } ; game main = block { :-----: :-----: } ;",
-            "none",
-        ),
-        (
-            "game main = block { feedback : ; inputs : ; :-----: :-----: } ;",
-            "none",
-        ),
-    ] {
-        let mut shown = String::new(alloc);
-        tell_game(alloc, text, &mut shown)?;
-        assert_eq!(rt; shown.as_str(), want, "{text}");
-    }
-    Ok(())
-}
+/// Texts, and the games that they are read as.
+const GAMES: [(&str, &str); 9] = [
+    (DILEMMA, DILEMMA_SHOWN),
+    ("game main = block { :-----: :-----: } ;", ""),
+    (
+        "type A = { B } ; game main = block { :-----: :-----: } ;",
+        "type A: B\n",
+    ),
+    ("", "none"),
+    ("game other = block { :-----: :-----: } ;", "none"),
+    ("game main = block { :-----: :-----: } ; ;", "none"),
+    ("game main = block { :-----: :-----: }", "none"),
+    (
+        "type A = { } ; game main = block { :-----: :-----: } ;",
+        "none",
+    ),
+    (
+        "game main = block { feedback : ; inputs : ; :-----: :-----: } ;",
+        "none",
+    ),
+];
 
 #[test]
-fn strategies(rt: HostRuntime) -> Result<(), Fail> {
-    let alloc = rt.alloc();
-    for (text, want) in [
-        (
-            "strategy \"player1\" { ( ) -> Defect ; } strategy \"player2\" { ( ) -> Cooperate ; }",
-            "player1 picks Defect\nplayer2 picks Cooperate\n",
-        ),
-        ("", ""),
-        ("strategy \"player1\" { }", "none"),
-        ("strategy \"player1\" { ( ) -> Defect ; } ;", "none"),
-        ("strategy player1 { ( ) -> Defect ; }", "none"),
-    ] {
-        let mut shown = String::new(alloc);
-        tell_strategy(alloc, text, &mut shown)?;
-        assert_eq!(rt; shown.as_str(), want, "{text}");
+fn games(rt: HostRuntime) {
+    for (text, want) in GAMES {
+        let mut told = String::new(rt.alloc());
+        tell_read_game(&rt, rt.alloc(), text, &mut told);
+        check_told(&rt, text, told.as_str(), want);
     }
-    Ok(())
+}
+
+/// Texts, and the strategies that they are read as.
+const STRATEGIES: [(&str, &str); 5] = [
+    (
+        "strategy \"player1\" { ( ) -> Defect ; } strategy \"player2\" { ( ) -> Cooperate ; }",
+        "player1 picks Defect\nplayer2 picks Cooperate\n",
+    ),
+    ("", ""),
+    ("strategy \"player1\" { }", "none"),
+    ("strategy \"player1\" { ( ) -> Defect ; } ;", "none"),
+    ("strategy player1 { ( ) -> Defect ; }", "none"),
+];
+
+#[test]
+fn strategies(rt: HostRuntime) {
+    for (text, want) in STRATEGIES {
+        let mut told = String::new(rt.alloc());
+        tell_read_strategy(&rt, rt.alloc(), text, &mut told);
+        check_told(&rt, text, told.as_str(), want);
+    }
 }
 
 #[test]

@@ -1,200 +1,158 @@
+use crate::told::{check_told, tell};
 use og_list::List;
 use og_small::{
     Key, Line, Row, Section, SmallGame, TypeDecl, accepts, fits, fitting_strategies, report_on,
 };
-use std::alloc::{AllocError, Global};
+use std::alloc::Global;
+use std::process::Abort;
 use std::str::SplitWhitespace;
-use std::test::Fail;
 
-fn add_name(names: &mut List<List<u8>>, alloc: Global, text: &str) -> Result<(), AllocError> {
-    names.add(List::from_slice(alloc, text.as_bytes())?)
+/// The name of these bytes.
+fn name(rt: &impl Abort, alloc: Global, text: &str) -> List<u8> {
+    List::from_slice(alloc, text.as_bytes()).expect(rt, "memory")
 }
 
-fn add_names(
-    names: &mut List<List<u8>>,
-    alloc: Global,
-    words: SplitWhitespace<'_>,
-) -> Result<(), AllocError> {
+/// The name of the next word, or the empty name where there is none.
+fn next_name(rt: &impl Abort, alloc: Global, words: &mut SplitWhitespace<'_>) -> List<u8> {
+    name(rt, alloc, words.next().unwrap_or(""))
+}
+
+/// The names of all words that are left.
+fn names(rt: &impl Abort, alloc: Global, words: SplitWhitespace<'_>) -> List<List<u8>> {
+    let mut all = List::new(alloc);
     for word in words {
-        add_name(names, alloc, word)?;
+        all.add(name(rt, alloc, word)).expect(rt, "memory");
     }
-    Ok(())
-}
-
-fn add_type(
-    types: &mut List<TypeDecl>,
-    alloc: Global,
-    name: &str,
-    cases: SplitWhitespace<'_>,
-) -> Result<(), AllocError> {
-    let mut made = TypeDecl {
-        name: List::new(alloc),
-        cases: List::new(alloc),
-    };
-    made.name.extend_from_slice(name.as_bytes())?;
-    add_names(&mut made.cases, alloc, cases)?;
-    types.add(made)
-}
-
-fn add_line(
-    lines: &mut List<Line>,
-    alloc: Global,
-    agent: &str,
-    action: &str,
-    output: &str,
-) -> Result<(), AllocError> {
-    let mut made = Line {
-        agent: List::new(alloc),
-        action: List::new(alloc),
-        output: List::new(alloc),
-        keys: List::new(alloc),
-        rows: List::new(alloc),
-    };
-    made.agent.extend_from_slice(agent.as_bytes())?;
-    made.action.extend_from_slice(action.as_bytes())?;
-    made.output.extend_from_slice(output.as_bytes())?;
-    lines.add(made)
-}
-
-fn add_key(
-    keys: &mut List<Key>,
-    alloc: Global,
-    output: &str,
-    action: &str,
-) -> Result<(), AllocError> {
-    let mut made = Key {
-        output: List::new(alloc),
-        action: List::new(alloc),
-    };
-    made.output.extend_from_slice(output.as_bytes())?;
-    made.action.extend_from_slice(action.as_bytes())?;
-    keys.add(made)
-}
-
-fn add_row(
-    rows: &mut List<Row>,
-    alloc: Global,
-    pay: u64,
-    cases: SplitWhitespace<'_>,
-) -> Result<(), AllocError> {
-    let mut made = Row {
-        cases: List::new(alloc),
-        pay,
-    };
-    add_names(&mut made.cases, alloc, cases)?;
-    rows.add(made)
+    all
 }
 
 /// Adds to the line's table: `key OUTPUT TYPE` or `pays NUMBER CASES`.
 fn add_to_line(
-    line: &mut Line,
+    rt: &impl Abort,
     alloc: Global,
+    line: &mut Line,
     kind: &str,
     mut words: SplitWhitespace<'_>,
-) -> Result<(), Fail> {
-    let first = words.next().unwrap_or("");
+) {
     if kind == "key" {
-        add_key(&mut line.keys, alloc, first, words.next().unwrap_or(""))?;
+        let output = next_name(rt, alloc, &mut words);
+        let action = next_name(rt, alloc, &mut words);
+        line.keys.add(Key { output, action }).expect(rt, "memory");
     } else {
-        let pay = first.parse::<u64>().ok().ok_or("a number")?;
-        add_row(&mut line.rows, alloc, pay, words)?;
+        let pay = words.next().unwrap_or("").parse::<u64>();
+        let pay = pay.ok().expect(rt, "a number");
+        let cases = names(rt, alloc, words);
+        line.rows.add(Row { cases, pay }).expect(rt, "memory");
     }
-    Ok(())
+}
+
+/// The line of `AGENT TYPE OUTPUT`, with an empty table.
+fn line(rt: &impl Abort, alloc: Global, mut words: SplitWhitespace<'_>) -> Line {
+    Line {
+        agent: next_name(rt, alloc, &mut words),
+        action: next_name(rt, alloc, &mut words),
+        output: next_name(rt, alloc, &mut words),
+        keys: List::new(alloc),
+        rows: List::new(alloc),
+    }
+}
+
+/// The type of `NAME CASES`.
+fn declared(rt: &impl Abort, alloc: Global, mut words: SplitWhitespace<'_>) -> TypeDecl {
+    TypeDecl {
+        name: next_name(rt, alloc, &mut words),
+        cases: names(rt, alloc, words),
+    }
 }
 
 /// Adds one part of a game's text: `type NAME CASES`, `line AGENT TYPE OUTPUT`, or `key OUTPUT TYPE`
 /// and `pays NUMBER CASES`, which belong to the last line.
-fn add_part(game: &mut SmallGame, alloc: Global, part: &str) -> Result<(), Fail> {
+fn add_part(rt: &impl Abort, alloc: Global, game: &mut SmallGame, part: &str) {
     let mut words = part.split_whitespace();
     match words.next().unwrap_or("") {
         "" => {}
         "type" => {
-            let name = words.next().unwrap_or("");
-            add_type(&mut game.types, alloc, name, words)?;
+            let made = declared(rt, alloc, words);
+            game.types.add(made).expect(rt, "memory");
         }
         "line" => {
-            let agent = words.next().unwrap_or("");
-            let action = words.next().unwrap_or("");
-            let output = words.next().unwrap_or("");
-            add_line(&mut game.lines, alloc, agent, action, output)?;
+            let made = line(rt, alloc, words);
+            game.lines.add(made).expect(rt, "memory");
         }
         kind => {
-            let mut line = game.lines.pop().ok_or("a line")?;
-            add_to_line(&mut line, alloc, kind, words)?;
-            game.lines.add(line)?;
+            let mut last = game.lines.pop().expect(rt, "a line");
+            add_to_line(rt, alloc, &mut last, kind, words);
+            game.lines.add(last).expect(rt, "memory");
         }
     }
-    Ok(())
 }
 
-/// The game of a text, whose parts have `;` between them.
-fn game(alloc: Global, text: &str) -> Result<SmallGame, Fail> {
+/// Adds the parts of a game's text, which have `;` between them.
+fn add_parts(rt: &impl Abort, alloc: Global, game: &mut SmallGame, text: &str) {
+    for part in text.split(';') {
+        add_part(rt, alloc, game, part);
+    }
+}
+
+/// The game of a text.
+fn game(rt: &impl Abort, alloc: Global, text: &str) -> SmallGame {
     let mut made = SmallGame {
         types: List::new(alloc),
         lines: List::new(alloc),
     };
-    for part in text.split(';') {
-        add_part(&mut made, alloc, part)?;
-    }
-    Ok(made)
-}
-
-fn add_section(
-    sections: &mut List<Section>,
-    alloc: Global,
-    agent: &str,
-    choice: &str,
-) -> Result<(), AllocError> {
-    let mut made = Section {
-        agent: List::new(alloc),
-        choice: List::new(alloc),
-    };
-    made.agent.extend_from_slice(agent.as_bytes())?;
-    made.choice.extend_from_slice(choice.as_bytes())?;
-    sections.add(made)
+    add_parts(rt, alloc, &mut made, text);
+    made
 }
 
 /// The strategy of a text: for each section its agent and its choice.
-fn strategy(alloc: Global, text: &str) -> Result<List<Section>, Fail> {
+fn strategy(rt: &impl Abort, alloc: Global, text: &str) -> List<Section> {
     let mut made = List::new(alloc);
     let mut words = text.split_whitespace();
     for _ in 0..5 {
         if let Some(agent) = words.next() {
-            add_section(&mut made, alloc, agent, words.next().unwrap_or(""))?;
+            let agent = name(rt, alloc, agent);
+            let choice = next_name(rt, alloc, &mut words);
+            made.add(Section { agent, choice }).expect(rt, "memory");
         }
     }
-    Ok(made)
+    made
 }
 
-/// Adds the report on an accepted game, or `unfit` where the strategy does not fit.
+/// Adds the report on an accepted game and a strategy that fits it.
 fn tell_report(
+    rt: &impl Abort,
     alloc: Global,
     game: &SmallGame,
-    choices: &str,
+    sections: &[Section],
     told: &mut String,
-) -> Result<(), Fail> {
-    let sections = strategy(alloc, choices)?;
-    if !fits(game, sections.as_slice()) {
-        told.push_str("unfit")?;
-        return Ok(());
-    }
-    let made = report_on(alloc, game, sections.as_slice())?;
-    if made.is_equilibrium != made.text.as_slice().starts_with(b"equilibrium") {
-        told.push_str("another verdict")?;
-    }
-    told.push_str(str::from_utf8(made.text.as_slice()).ok().ok_or("a text")?)?;
-    Ok(())
+) {
+    let made = report_on(alloc, game, sections).expect(rt, "memory");
+    let text = str::from_utf8(made.text.as_slice())
+        .ok()
+        .expect(rt, "a text");
+    assert!(rt; made.is_equilibrium == text.starts_with("equilibrium"));
+    tell(rt, told, text);
 }
 
-/// Adds what is told about a game: `refused`, or what is told of an accepted one.
-fn tell(alloc: Global, text: &str, choices: &str, told: &mut String) -> Result<(), Fail> {
-    let game = game(alloc, text)?;
-    if accepts(alloc, &game)? {
-        tell_report(alloc, &game, choices, told)?;
+/// Adds what is told about a game: `refused`, `unfit` where the strategy does not fit, or a report.
+fn tell_game(rt: &impl Abort, alloc: Global, text: &str, choices: &str, told: &mut String) {
+    let game = game(rt, alloc, text);
+    let sections = strategy(rt, alloc, choices);
+    if !accepts(alloc, &game).expect(rt, "memory") {
+        tell(rt, told, "refused\n");
+    } else if fits(&game, sections.as_slice()) {
+        tell_report(rt, alloc, &game, sections.as_slice(), told);
     } else {
-        told.push_str("refused")?;
+        tell(rt, told, "unfit\n");
     }
-    Ok(())
+}
+
+/// Adds whether the prisoner's dilemma with more after it is accepted.
+fn tell_accepted(rt: &impl Abort, alloc: Global, more: &str, told: &mut String) {
+    let mut game = game(rt, alloc, DILEMMA);
+    add_parts(rt, alloc, &mut game, more);
+    let accepted = accepts(alloc, &game).expect(rt, "memory");
+    tell(rt, told, if accepted { "accepted" } else { "refused" });
 }
 
 /// The prisoner's dilemma.
@@ -216,146 +174,163 @@ const SIDE: &str = "type Side Left Middle Right Back;
 const AGAIN: &str =
     "type Move C D; line b Move x; pays 4; line a Move y; pays 2; line b Move z; pays 3";
 
-#[test]
-fn reports(rt: HostRuntime) -> Result<(), Fail> {
-    let alloc = rt.alloc();
-    let cases = [
-        (
-            DILEMMA,
-            "player1 C player2 C",
-            "deviations 2\nvalue \"player1\" = 3\nvalue \"player2\" = 3\ndecision 1 \"player1\" at () play D gain 2\ndecision 2 \"player2\" at () play D gain 2\n",
-        ),
-        (
-            DILEMMA,
-            "player1 D player2 D",
-            "equilibrium\nvalue \"player1\" = 1\nvalue \"player2\" = 1\n",
-        ),
-        (
-            DILEMMA,
-            "player1 C player2 D",
-            "deviations 1\nvalue \"player1\" = 0\nvalue \"player2\" = 5\ndecision 1 \"player1\" at () play D gain 1\n",
-        ),
-        (
-            FIRM,
-            "firm Low firm Low",
-            "deviations 2\nvalue \"firm\" = 3\ndecision 1 \"firm\" at () play High gain 1\ndecision 2 \"firm\" at () play High gain 3\n",
-        ),
-        (
-            FIRM,
-            "firm High firm High",
-            "equilibrium\nvalue \"firm\" = 11\n",
-        ),
-        (
-            SIDE,
-            "solo Left",
-            "deviations 2\nvalue \"solo\" = 1\ndecision 1 \"solo\" at () play Middle gain 4\ndecision 1 \"solo\" at () play Right gain 2\n",
-        ),
-        (
-            SIDE,
-            "solo Right",
-            "deviations 1\nvalue \"solo\" = 3\ndecision 1 \"solo\" at () play Middle gain 2\n",
-        ),
-        (SIDE, "solo Middle", "equilibrium\nvalue \"solo\" = 5\n"),
-        (
-            AGAIN,
-            "b C a C b D",
-            "equilibrium\nvalue \"b\" = 7\nvalue \"a\" = 2\n",
-        ),
-        ("", "", "equilibrium\n"),
-        ("", "player1 C", "unfit"),
-        (DILEMMA, "player2 C player1 C", "unfit"),
-        (DILEMMA, "player1 C player2 Move", "unfit"),
-        (DILEMMA, "player1 C", "unfit"),
-        (DILEMMA, "player1 C player2 C player1 C", "unfit"),
-    ];
-    for (text, choices, want) in cases {
+/// Blocks of the choices, on the first line, and of what is told of the prisoner's dilemma with them.
+const DILEMMA_REPORTS: &str = "player1 C player2 C
+deviations 2
+value \"player1\" = 3
+value \"player2\" = 3
+decision 1 \"player1\" at () play D gain 2
+decision 2 \"player2\" at () play D gain 2
+--
+player1 D player2 D
+equilibrium
+value \"player1\" = 1
+value \"player2\" = 1
+--
+player1 C player2 D
+deviations 1
+value \"player1\" = 0
+value \"player2\" = 5
+decision 1 \"player1\" at () play D gain 1
+--
+player2 C player1 C
+unfit
+--
+player1 C player2 Move
+unfit
+--
+player1 C
+unfit
+--
+player1 C player2 C player1 C
+unfit
+";
+
+const FIRM_REPORTS: &str = "firm Low firm Low
+deviations 2
+value \"firm\" = 3
+decision 1 \"firm\" at () play High gain 1
+decision 2 \"firm\" at () play High gain 3
+--
+firm High firm High
+equilibrium
+value \"firm\" = 11
+";
+
+const SIDE_REPORTS: &str = "solo Left
+deviations 2
+value \"solo\" = 1
+decision 1 \"solo\" at () play Middle gain 4
+decision 1 \"solo\" at () play Right gain 2
+--
+solo Right
+deviations 1
+value \"solo\" = 3
+decision 1 \"solo\" at () play Middle gain 2
+--
+solo Middle
+equilibrium
+value \"solo\" = 5
+";
+
+const AGAIN_REPORTS: &str = "b C a C b D
+equilibrium
+value \"b\" = 7
+value \"a\" = 2
+";
+
+const EMPTY_REPORTS: &str = "
+equilibrium
+--
+player1 C
+unfit
+";
+
+/// With the choices of each block's first line, the rest of the block is told of the game.
+fn check_reports(rt: &impl Abort, alloc: Global, text: &str, blocks: &str) {
+    for block in blocks.split("--\n") {
+        let (choices, want) = block.split_once('\n').expect(rt, "choices");
         let mut told = String::new(alloc);
-        tell(alloc, text, choices, &mut told)?;
-        assert_eq!(rt; told.as_str(), want, "{choices} in {text}");
+        tell_game(rt, alloc, text, choices, &mut told);
+        check_told(rt, choices, told.as_str(), want);
     }
-    Ok(())
-}
-
-/// Whether the prisoner's dilemma with more after it is accepted.
-fn accepts_with(alloc: Global, more: &str) -> Result<bool, Fail> {
-    let text = format!(in alloc; "{DILEMMA} {more}")?;
-    let made = game(alloc, text.as_str())?;
-    Ok(accepts(alloc, &made)?)
 }
 
 #[test]
-fn accepted_games(rt: HostRuntime) -> Result<(), Fail> {
-    let alloc = rt.alloc();
-    // What stands after the prisoner's dilemma, and whether all that is accepted.
-    let cases = [
-        ("", true),
-        (
-            "type Side E; line a Side z; key x Move; key z Side; pays 1 C E; pays 2 D E",
-            true,
-        ),
-        // names that differ, and none `main`
-        ("type Move E", false),
-        ("type D E", false),
-        ("type x E", false),
-        ("type Side E D", false),
-        ("type Side E E", false),
-        ("type Side y", false),
-        ("type Side Side", false),
-        ("line a Move x; pays 0", false),
-        ("line a Move C; pays 0", false),
-        ("type Side E main", false),
-        ("type main E", false),
-        ("line a Move main; pays 0", false),
-        ("line main Move z; pays 0", true),
-        // declared types, and keys that are outputs with their types
-        ("line a Side z; pays 0", false),
-        ("line a Move z; key x Side", false),
-        ("type Side E; line a Side z; key w Side; pays 0 E", false),
-        ("type Side E; line a Side z; key x Side; pays 0 E", false),
-        // a row for each joint key
-        ("line a Move z; key x Move; pays 1 D", false),
-        ("line a Move z; key x Move; pays 1 D; pays 2 C", true),
-        (
-            "line a Move z; key x Move; pays 1 D; pays 2 C; pays 1 D",
-            false,
-        ),
-        (
-            "line a Move z; key x Move; pays 1 D; pays 2 C; pays 1 x",
-            false,
-        ),
-        (
-            "line a Move z; key x Move; pays 1 D; pays 2 C; pays 1",
-            false,
-        ),
-        (
-            "line a Move z; key x Move; pays 1 D; pays 2 C; pays 1 C D",
-            false,
-        ),
-        ("line a Move z", false),
-        // numbers below 2^63
-        ("line a Move z; pays 9223372036854775807", true),
-        ("line a Move z; pays 9223372036854775808", false),
-        // sizes
-        ("type Side a b c d e f g h", true),
-        ("type Side a b c d e f g h i", false),
-        ("line a Move z; pays 0; line a Move w; pays 0", true),
-        (
-            "line a Move z; pays 0; line a Move w; pays 0; line a Move v; pays 0",
-            false,
-        ),
-        (
-            "type Side E; line a Side z; key z Side; key z Side; key z Side; key z Side; pays 0 E E E E",
-            true,
-        ),
-        (
-            "type Side E; line a Side z; key z Side; key z Side; key z Side; key z Side; key z Side; pays 0 E E E E E",
-            false,
-        ),
-    ];
-    for (more, want) in cases {
-        assert_eq!(rt; accepts_with(alloc, more)?, want, "with {more}");
+fn reports(rt: HostRuntime) {
+    check_reports(&rt, rt.alloc(), DILEMMA, DILEMMA_REPORTS);
+    check_reports(&rt, rt.alloc(), FIRM, FIRM_REPORTS);
+    check_reports(&rt, rt.alloc(), SIDE, SIDE_REPORTS);
+    check_reports(&rt, rt.alloc(), AGAIN, AGAIN_REPORTS);
+    check_reports(&rt, rt.alloc(), "", EMPTY_REPORTS);
+}
+
+/// What stands after the prisoner's dilemma, and whether all that is accepted.
+const MORE: &str = "accepted:
+accepted: type Side E; line a Side z; key x Move; key z Side; pays 1 C E; pays 2 D E";
+
+/// With more names: they have to differ, and none is `main`.
+const NAMES: &str = "refused: type Move E
+refused: type D E
+refused: type x E
+refused: type Side E D
+refused: type Side E E
+refused: type Side y
+refused: type Side Side
+refused: line a Move x; pays 0
+refused: line a Move C; pays 0
+refused: type Side E main
+refused: type main E
+refused: line a Move main; pays 0
+accepted: line main Move z; pays 0";
+
+/// With other columns: types have to be declared, and columns are outputs with their types.
+const COLUMNS: &str = "refused: line a Side z; pays 0
+refused: line a Move z; key x Side
+refused: type Side E; line a Side z; key w Side; pays 0 E
+refused: type Side E; line a Side z; key x Side; pays 0 E";
+
+/// With other rows: there is one for each joint key.
+const ROWS: &str = "refused: line a Move z; key x Move; pays 1 D
+accepted: line a Move z; key x Move; pays 1 D; pays 2 C
+refused: line a Move z; key x Move; pays 1 D; pays 2 C; pays 1 D
+refused: line a Move z; key x Move; pays 1 D; pays 2 C; pays 1 x
+refused: line a Move z; key x Move; pays 1 D; pays 2 C; pays 1
+refused: line a Move z; key x Move; pays 1 D; pays 2 C; pays 1 C D
+refused: line a Move z";
+
+/// With other numbers: they are below 2^63.
+const NUMBERS: &str = "accepted: line a Move z; pays 9223372036854775807
+refused: line a Move z; pays 9223372036854775808";
+
+/// With more of everything: there are bounds.
+const SIZES: &str = "accepted: type Side a b c d e f g h
+refused: type Side a b c d e f g h i
+accepted: line a Move z; pays 0; line a Move w; pays 0
+refused: line a Move z; pays 0; line a Move w; pays 0; line a Move v; pays 0
+accepted: type Side E; line a Side z; key z Side; key z Side; key z Side; key z Side; pays 0 E E E E
+refused: type Side E; line a Side z; key z Side; key z Side; key z Side; key z Side; key z Side; pays 0 E E E E E";
+
+/// The prisoner's dilemma is accepted or refused, as each line says, with what stands on the line.
+fn check_accepted(rt: &impl Abort, alloc: Global, lines: &str) {
+    for line in lines.lines() {
+        let (want, more) = line
+            .split_once(':')
+            .expect(rt, "what is wanted, and a text");
+        let mut told = String::new(alloc);
+        tell_accepted(rt, alloc, more, &mut told);
+        check_told(rt, more, told.as_str(), want);
     }
-    Ok(())
+}
+
+#[test]
+fn accepted_games(rt: HostRuntime) {
+    check_accepted(&rt, rt.alloc(), MORE);
+    check_accepted(&rt, rt.alloc(), NAMES);
+    check_accepted(&rt, rt.alloc(), COLUMNS);
+    check_accepted(&rt, rt.alloc(), ROWS);
+    check_accepted(&rt, rt.alloc(), NUMBERS);
+    check_accepted(&rt, rt.alloc(), SIZES);
 }
 
 #[test]
