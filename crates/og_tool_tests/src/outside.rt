@@ -1,59 +1,70 @@
+use crate::equal::check_equal;
 use og_io::{Files, HostFiles, HostSink, LoadFault, MemFiles, MemSink, PutFault, Sink};
-use std::alloc::{AllocError, Global};
+use std::alloc::Global;
 use std::fs;
+use std::process::Abort;
 use std::test::Fail;
 
 /// Three files, of which the last stands in place of the first, and a fourth load that is to fail.
-fn stored(alloc: Global) -> Result<MemFiles, AllocError> {
+fn stored(rt: &impl Abort, alloc: Global) -> MemFiles {
     let mut files = MemFiles::new(alloc);
-    files.add(alloc, "a", b"one")?;
-    files.add(alloc, "b", b"two")?;
-    files.add(alloc, "a", b"three")?;
-    files.fail(4)?;
-    Ok(files)
+    files.add(alloc, "a", b"one").expect(rt, "memory");
+    files.add(alloc, "b", b"two").expect(rt, "memory");
+    files.add(alloc, "a", b"three").expect(rt, "memory");
+    files.fail(4).expect(rt, "memory");
+    files
 }
 
-#[test]
-fn files_in_memory(rt: HostRuntime) -> Result<(), Fail> {
-    let mut files = stored(rt.alloc())?;
-    let cases = [
-        ("a", 5, Ok("three")),
-        ("a", 4, Err(LoadFault::Long)),
-        ("c", 9, Err(LoadFault::Failed)),
-        ("b", 9, Err(LoadFault::Failed)),
-        ("b", 3, Ok("two")),
-    ];
-    for (name, cap, want) in cases {
-        let got = files.load(rt.alloc(), name, cap);
-        match want {
-            Ok(text) => {
-                let bytes = got.ok().ok_or("refused")?;
-                assert_eq!(rt; bytes.as_slice(), text.as_bytes(), "{name} within {cap}");
-            }
-            Err(fault) => assert_eq!(rt; got.err(), Some(fault), "{name} within {cap}"),
-        }
+/// The next load answers these bytes, or is refused.
+fn check_load(
+    rt: &impl Abort,
+    alloc: Global,
+    files: &mut impl Files,
+    (name, cap): (&str, usize),
+    want: Result<&[u8], LoadFault>,
+) {
+    match files.load(alloc, name, cap) {
+        Ok(bytes) => check_equal(rt, Ok(bytes.as_slice()), want),
+        Err(fault) => check_equal(rt, Err(fault), want),
     }
-    Ok(())
 }
 
+/// Names, caps, and what each load answers.
+const LOADS: [(&str, usize, Result<&[u8], LoadFault>); 5] = [
+    ("a", 5, Ok(b"three")),
+    ("a", 4, Err(LoadFault::Long)),
+    ("c", 9, Err(LoadFault::Failed)),
+    ("b", 9, Err(LoadFault::Failed)),
+    ("b", 3, Ok(b"two")),
+];
+
 #[test]
-fn a_sink_in_memory(rt: HostRuntime) -> Result<(), Fail> {
+fn files_in_memory(rt: HostRuntime) {
+    let mut files = stored(&rt, rt.alloc());
+    for (name, cap, want) in LOADS {
+        check_load(&rt, rt.alloc(), &mut files, (name, cap), want);
+    }
+}
+
+/// Bytes that are put, what each put answers, and what is written after it.
+const PUTS: [(&str, Result<(), PutFault>, &str); 4] = [
+    ("abc", Ok(()), "abc"),
+    ("de", Err(PutFault::Failed), "abcde"),
+    ("fg", Err(PutFault::Failed), "abcdef"),
+    ("", Ok(()), "abcdef"),
+];
+
+#[test]
+fn a_sink_in_memory(rt: HostRuntime) {
     let mut sink = MemSink::new(rt.alloc());
-    sink.reserve(16)?;
-    sink.fail(2, 9)?;
-    sink.fail(3, 9)?;
-    sink.fail(3, 1)?;
-    let cases = [
-        ("abc", Ok(()), "abc"),
-        ("de", Err(PutFault::Failed), "abcde"),
-        ("fg", Err(PutFault::Failed), "abcdef"),
-        ("", Ok(()), "abcdef"),
-    ];
-    for (bytes, want, written) in cases {
-        assert_eq!(rt; sink.put(bytes.as_bytes()), want, "putting {bytes}");
-        assert_eq!(rt; sink.written(), written.as_bytes(), "after {bytes}");
+    sink.reserve(16).expect(&rt, "memory");
+    sink.fail(2, 9).expect(&rt, "memory");
+    sink.fail(3, 9).expect(&rt, "memory");
+    sink.fail(3, 1).expect(&rt, "memory");
+    for (bytes, want, written) in PUTS {
+        check_equal(&rt, sink.put(bytes.as_bytes()), want);
+        check_equal(&rt, sink.written(), written.as_bytes());
     }
-    Ok(())
 }
 
 /// A file of the host at the cap, above it, and gone.
@@ -62,18 +73,21 @@ fn files_of_the_host(rt: HostRuntime) -> Result<(), Fail> {
     let name = "og_host_file";
     fs::write(&rt, name, b"held")?;
     let mut files = HostFiles::new(&rt, rt.alloc());
-    let read = files.load(rt.alloc(), name, 4).ok().ok_or("refused")?;
-    let long = files.load(rt.alloc(), name, 3).err();
+    check_load(&rt, rt.alloc(), &mut files, (name, 4), Ok(b"held"));
+    check_load(&rt, rt.alloc(), &mut files, (name, 3), Err(LoadFault::Long));
     fs::remove_file(&rt, name)?;
-    let gone = files.load(rt.alloc(), name, 4).err();
-    assert_eq!(rt; read.as_slice(), b"held".as_slice());
-    assert_eq!(rt; long, Some(LoadFault::Long));
-    assert_eq!(rt; gone, Some(LoadFault::Failed));
+    check_load(
+        &rt,
+        rt.alloc(),
+        &mut files,
+        (name, 4),
+        Err(LoadFault::Failed),
+    );
     Ok(())
 }
 
 #[test]
 fn the_hosts_output(rt: HostRuntime) {
     let mut sink = HostSink::new(&rt);
-    assert_eq!(rt; sink.put(b"written\n"), Ok(()));
+    check_equal(&rt, sink.put(b"written\n"), Ok(()));
 }

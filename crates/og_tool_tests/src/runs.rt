@@ -1,13 +1,13 @@
 ghost use Rattle.std.specs.Prelude.{◌≡◌, ◌<◌};
 
+use crate::equal::check_equal;
 use og_io::{MemFiles, MemSink};
 use og_steps::Steps;
 use og_tool::{Status, run};
-use std::alloc::{AllocError, Global};
+use std::alloc::Global;
 use std::marker::Brand;
 use std::process::Abort;
 use std::sync::ledger::{Blank, Ledger};
-use std::test::Fail;
 
 /// The words, the texts under the names `g` and `s`, what of them is to fail, and what is wanted.
 #[derive(Clone, Copy)]
@@ -34,33 +34,38 @@ fn calm<'a>(game: &'a str, strategy: &'a str, written: &'a str, status: Status) 
     }
 }
 
-fn words_of(alloc: Global, words: &str) -> Result<Vec<String>, AllocError> {
+fn words_of(rt: &impl Abort, alloc: Global, words: &str) -> Vec<String> {
     let mut all = Vec::new(alloc);
     for word in words.split_whitespace() {
-        all.push(String::from_str(alloc, word)?)?;
+        let word = String::from_str(alloc, word).expect(rt, "memory");
+        all.push(word).expect(rt, "memory");
     }
-    Ok(all)
+    all
 }
 
-fn files_of(alloc: Global, case: &Case<'_>) -> Result<MemFiles, AllocError> {
+fn files_of(rt: &impl Abort, alloc: Global, case: &Case<'_>) -> MemFiles {
     let mut files = MemFiles::new(alloc);
-    files.add(alloc, "g", case.game.as_bytes())?;
+    files
+        .add(alloc, "g", case.game.as_bytes())
+        .expect(rt, "memory");
     if let Some(strategy) = case.strategy {
-        files.add(alloc, "s", strategy.as_bytes())?;
+        files
+            .add(alloc, "s", strategy.as_bytes())
+            .expect(rt, "memory");
     }
     if let Some(call) = case.failing_load {
-        files.fail(call)?;
+        files.fail(call).expect(rt, "memory");
     }
-    Ok(files)
+    files
 }
 
-fn sink_of(alloc: Global, case: &Case<'_>) -> Result<MemSink, AllocError> {
+fn sink_of(rt: &impl Abort, alloc: Global, case: &Case<'_>) -> MemSink {
     let mut out = MemSink::new(alloc);
-    out.reserve(8_192)?;
+    out.reserve(8_192).expect(rt, "memory");
     if let Some(after) = case.failing_put {
-        out.fail(1, after)?;
+        out.fail(1, after).expect(rt, "memory");
     }
-    Ok(out)
+    out
 }
 
 fn run_with<L: Ledger>(
@@ -78,23 +83,18 @@ fn run_with<L: Ledger>(
     run(alloc, words, files, out, &mut steps)
 }
 
-fn run_case(
-    alloc: Global,
-    words: &str,
-    files: &mut MemFiles,
-    out: &mut MemSink,
-) -> Result<Status, AllocError> {
-    let words = words_of(alloc, words)?;
-    Ok(run_with::<Brand>(alloc, words.as_slice(), files, out, Blank::new(1)))
+fn run_case(alloc: Global, words: &[String], files: &mut MemFiles, out: &mut MemSink) -> Status {
+    run_with::<Brand>(alloc, words, files, out, Blank::new(1))
 }
 
-fn check(rt: &impl Abort, alloc: Global, case: &Case<'_>) -> Result<(), AllocError> {
-    let mut files = files_of(alloc, case)?;
-    let mut out = sink_of(alloc, case)?;
-    let status = run_case(alloc, case.words, &mut files, &mut out)?;
-    assert_eq!(rt; out.written(), case.written.as_bytes(), "{}", case.words);
-    assert_eq!(rt; status, case.status, "{}", case.words);
-    Ok(())
+/// The run writes what the case says, and has its status.
+fn check(rt: &impl Abort, alloc: Global, case: &Case<'_>) {
+    let mut files = files_of(rt, alloc, case);
+    let mut out = sink_of(rt, alloc, case);
+    let words = words_of(rt, alloc, case.words);
+    let status = run_case(alloc, words.as_slice(), &mut files, &mut out);
+    check_equal(rt, str::from_utf8(out.written()), Ok(case.written));
+    check_equal(rt, status, case.status);
 }
 
 const EMPTY: &str = "game main = block { :---: :---: };\n";
@@ -142,234 +142,266 @@ const THREE: &str = "type A = { L, R }; game main = block { :---:
   returns : table (z : A, y : A) { (L, L) -> 1; (L, R) -> 0; (R, L) -> 0; (R, R) -> 1; } ;
 :---: };";
 
-/// Reports on games that are accepted.
+/// Games that are accepted, strategies, the reports on them and the statuses.
+const REPORTS: [(&str, &str, &str, Status); 7] = [
+    (EMPTY, "", "equilibrium\n", Status::Done),
+    (EMPTY, " \n", "equilibrium\n", Status::Done),
+    (
+        PRISONERS,
+        COOPERATE,
+        "deviations 2\nvalue \"player1\" = 3\nvalue \"player2\" = 3\ndecision 1 \"player1\" at () play Defect gain 2\ndecision 2 \"player2\" at () play Defect gain 2\n",
+        Status::Deviations,
+    ),
+    (
+        PRISONERS,
+        DEFECT,
+        "equilibrium\nvalue \"player1\" = 1\nvalue \"player2\" = 1\n",
+        Status::Done,
+    ),
+    // At y the action R moves 3 down to 1 in its own table and 0 up to 4 in the other.
+    (
+        TWICE,
+        "strategy \"a\" { () -> L; } strategy \"a\" { () -> L; }",
+        "deviations 1\nvalue \"a\" = 3\ndecision 2 \"a\" at () play R gain 2\n",
+        Status::Deviations,
+    ),
+    (
+        ONE,
+        "strategy \"a\" { () -> L; }",
+        "deviations 1\nvalue \"a\" = 2\ndecision 1 \"a\" at () play R gain 5\n",
+        Status::Deviations,
+    ),
+    (
+        THREE,
+        "strategy \"a\" { () -> L; } strategy \"b\" { () -> L; } strategy \"c\" { () -> R; }",
+        "deviations 2\nvalue \"a\" = 0\nvalue \"b\" = 1\nvalue \"c\" = 0\ndecision 1 \"a\" at () play R gain 1\ndecision 3 \"c\" at () play L gain 1\n",
+        Status::Deviations,
+    ),
+];
+
 #[test]
-fn reports(rt: HostRuntime) -> Result<(), Fail> {
-    let cases = [
-        calm(EMPTY, "", "equilibrium\n", Status::Done),
-        calm(EMPTY, " \n", "equilibrium\n", Status::Done),
-        calm(
-            PRISONERS,
-            COOPERATE,
-            "deviations 2\nvalue \"player1\" = 3\nvalue \"player2\" = 3\ndecision 1 \"player1\" at () play Defect gain 2\ndecision 2 \"player2\" at () play Defect gain 2\n",
-            Status::Deviations,
-        ),
-        calm(
-            PRISONERS,
-            DEFECT,
-            "equilibrium\nvalue \"player1\" = 1\nvalue \"player2\" = 1\n",
-            Status::Done,
-        ),
-        // At y the action R moves 3 down to 1 in its own table and 0 up to 4 in the other.
-        calm(
-            TWICE,
-            "strategy \"a\" { () -> L; } strategy \"a\" { () -> L; }",
-            "deviations 1\nvalue \"a\" = 3\ndecision 2 \"a\" at () play R gain 2\n",
-            Status::Deviations,
-        ),
-        calm(
-            ONE,
-            "strategy \"a\" { () -> L; }",
-            "deviations 1\nvalue \"a\" = 2\ndecision 1 \"a\" at () play R gain 5\n",
-            Status::Deviations,
-        ),
-        calm(
-            THREE,
-            "strategy \"a\" { () -> L; } strategy \"b\" { () -> L; } strategy \"c\" { () -> R; }",
-            "deviations 2\nvalue \"a\" = 0\nvalue \"b\" = 1\nvalue \"c\" = 0\ndecision 1 \"a\" at () play R gain 1\ndecision 3 \"c\" at () play L gain 1\n",
-            Status::Deviations,
-        ),
-    ];
-    for case in &cases {
-        check(&rt, rt.alloc(), case)?;
+fn reports(rt: HostRuntime) {
+    for (game, strategy, written, status) in REPORTS {
+        check(&rt, rt.alloc(), &calm(game, strategy, written, status));
     }
-    Ok(())
+}
+
+/// Adds the part at the end.
+fn add(rt: &impl Abort, text: &mut String, part: &str) {
+    text.push_str(part).expect(rt, "memory");
 }
 
 /// Adds a row for each way to choose one of eight cases for each of four lines, each of which pays 6.
-fn add_rows(text: &mut String, alloc: Global) -> Result<(), AllocError> {
+fn add_rows(rt: &impl Abort, alloc: Global, text: &mut String) {
     for joint in 0..4_096u32 {
         let (w, x, y, z) = (joint / 512, joint / 64 % 8, joint / 8 % 8, joint % 8);
-        let row = format!(in alloc; "(w{w},x{x},y{y},z{z})->6;\n")?;
-        text.push_str(row.as_str())?;
+        let row = format!(in alloc; "(w{w},x{x},y{y},z{z})->6;\n").expect(rt, "memory");
+        add(rt, text, row.as_str());
     }
-    Ok(())
+}
+
+/// Adds a decision, paid by a table of four columns.
+fn add_line(rt: &impl Abort, alloc: Global, text: &mut String, letter: &str) {
+    add(rt, text, "operation : dependentDecision \"");
+    add(rt, text, letter);
+    add(rt, text, "\" [] T");
+    add(rt, text, letter);
+    add(rt, text, " ; outputs : o");
+    add(rt, text, letter);
+    add(
+        rt,
+        text,
+        " ;\nreturns : table (ow : Tw, ox : Tx, oy : Ty, oz : Tz) {\n",
+    );
+    add_rows(rt, alloc, text);
+    add(rt, text, "} ;\n");
 }
 
 /// A game with as much of everything as it may have: four lines, eight cases for each, four columns in
 /// each table.
-fn largest_game(alloc: Global) -> Result<String, AllocError> {
+fn largest_game(rt: &impl Abort, alloc: Global) -> String {
     let mut text = String::new(alloc);
+    add(
+        rt,
+        &mut text,
+        "type Tw = { w0, w1, w2, w3, w4, w5, w6, w7 };\n",
+    );
+    add(
+        rt,
+        &mut text,
+        "type Tx = { x0, x1, x2, x3, x4, x5, x6, x7 };\n",
+    );
+    add(
+        rt,
+        &mut text,
+        "type Ty = { y0, y1, y2, y3, y4, y5, y6, y7 };\n",
+    );
+    add(
+        rt,
+        &mut text,
+        "type Tz = { z0, z1, z2, z3, z4, z5, z6, z7 };\n",
+    );
+    add(rt, &mut text, "game main = block { :---:\n");
     for letter in ["w", "x", "y", "z"] {
-        let cases = format!(in alloc;
-            "type T{letter} = {{ {letter}0, {letter}1, {letter}2, {letter}3, {letter}4, {letter}5, {letter}6, {letter}7 }};\n"
-        )?;
-        text.push_str(cases.as_str())?;
+        add_line(rt, alloc, &mut text, letter);
     }
-    text.push_str("game main = block { :---:\n")?;
-    for letter in ["w", "x", "y", "z"] {
-        let head = format!(in alloc;
-            "operation : dependentDecision \"{letter}\" [] T{letter} ; outputs : o{letter} ;\nreturns : table (ow : Tw, ox : Tx, oy : Ty, oz : Tz) {{\n"
-        )?;
-        text.push_str(head.as_str())?;
-        add_rows(&mut text, alloc)?;
-        text.push_str("} ;\n")?;
-    }
-    text.push_str(":---: };\n")?;
-    Ok(text)
+    add(rt, &mut text, ":---: };\n");
+    text
 }
 
 /// The largest game is reported on.
 #[test]
-fn the_largest_game(rt: HostRuntime) -> Result<(), Fail> {
-    let game = largest_game(rt.alloc())?;
+fn the_largest_game(rt: HostRuntime) {
+    let game = largest_game(&rt, rt.alloc());
     let strategy =
         "strategy \"w\" { () -> w0; } strategy \"x\" { () -> x7; } strategy \"y\" { () -> y3; } strategy \"z\" { () -> z5; }";
     let report =
         "equilibrium\nvalue \"w\" = 6\nvalue \"x\" = 6\nvalue \"y\" = 6\nvalue \"z\" = 6\n";
     let case = calm(game.as_str(), strategy, report, Status::Done);
-    check(&rt, rt.alloc(), &case)?;
-    Ok(())
+    check(&rt, rt.alloc(), &case);
 }
+
+const PENNIES: &str = "type Side = { Heads, Tails }; game main = block { :-----:
+  operation : dependentDecision \"even\" [] Side ; outputs : x ; returns : if x == y then 1 else -1 end ;
+  operation : dependentDecision \"odd\" [] Side ; outputs : y ; returns : if x == y then -1 else 1 end ;
+:-----: };";
+
+const REFUSED_GAMES: [&str; 15] = [
+    "",
+    PENNIES,
+    "// a comment\ngame main = block { :---: :---: };",
+    "game main = block { :--: :---: };",
+    "game main = block { :---: :---: }",
+    "game main = block { :---: :---: }; ;",
+    "game other = block { :---: :---: };",
+    "game main = block { :---: :---: }; \u{e9}",
+    "type A = { main }; game main = block { :---: :---: };",
+    "type A = { B, B }; game main = block { :---: :---: };",
+    "type A = { B, C, D, E, F, G, H, I, J }; game main = block { :---: :---: };",
+    "type A = { B }; game main = block { :---: operation : dependentDecision \"a\" [] A ; outputs : x ; returns : table (x : A) { (B) -> 9223372036854775808; } ; :---: };",
+    "type A = { B }; game main = block { :---: operation : dependentDecision \"a\" [] C ; outputs : x ; returns : table (x : A) { (B) -> 1; } ; :---: };",
+    "type A = { B, C }; game main = block { :---: operation : dependentDecision \"a\" [] A ; outputs : x ; returns : table (x : A) { (B) -> 1; } ; :---: };",
+    "type A = { B }; game main = block { :---: operation : dependentDecision \"a\" [] A ; outputs : x ; returns : table (y : A) { (B) -> 1; } ; :---: };",
+];
 
 /// Games that are refused, whatever the strategy, and also where the strategy is missing or fails: it
 /// isn't read.
 #[test]
-fn refused_games(rt: HostRuntime) -> Result<(), Fail> {
-    let pennies = "type Side = { Heads, Tails }; game main = block { :-----:
-  operation : dependentDecision \"even\" [] Side ; outputs : x ; returns : if x == y then 1 else -1 end ;
-  operation : dependentDecision \"odd\" [] Side ; outputs : y ; returns : if x == y then -1 else 1 end ;
-:-----: };";
-    let games = [
-        "",
-        pennies,
-        "// a comment\ngame main = block { :---: :---: };",
-        "game main = block { :--: :---: };",
-        "game main = block { :---: :---: }",
-        "game main = block { :---: :---: }; ;",
-        "game other = block { :---: :---: };",
-        "game main = block { :---: :---: }; \u{e9}",
-        "type A = { main }; game main = block { :---: :---: };",
-        "type A = { B, B }; game main = block { :---: :---: };",
-        "type A = { B, C, D, E, F, G, H, I, J }; game main = block { :---: :---: };",
-        "type A = { B }; game main = block { :---: operation : dependentDecision \"a\" [] A ; outputs : x ; returns : table (x : A) { (B) -> 9223372036854775808; } ; :---: };",
-        "type A = { B }; game main = block { :---: operation : dependentDecision \"a\" [] C ; outputs : x ; returns : table (x : A) { (B) -> 1; } ; :---: };",
-        "type A = { B, C }; game main = block { :---: operation : dependentDecision \"a\" [] A ; outputs : x ; returns : table (x : A) { (B) -> 1; } ; :---: };",
-        "type A = { B }; game main = block { :---: operation : dependentDecision \"a\" [] A ; outputs : x ; returns : table (y : A) { (B) -> 1; } ; :---: };",
-    ];
-    for game in games {
+fn refused_games(rt: HostRuntime) {
+    for game in REFUSED_GAMES {
         let mut case = calm(game, "", BAD_GAME, Status::GameText);
-        check(&rt, rt.alloc(), &case)?;
+        check(&rt, rt.alloc(), &case);
         case.failing_load = Some(2);
-        check(&rt, rt.alloc(), &case)?;
+        check(&rt, rt.alloc(), &case);
         case.strategy = None;
-        check(&rt, rt.alloc(), &case)?;
+        check(&rt, rt.alloc(), &case);
     }
-    Ok(())
 }
 
-/// Strategies that are refused.
+/// Strategies that are refused, after the games that they are for.
+const REFUSED_STRATEGIES: [(&str, &str); 6] = [
+    (PRISONERS, ""),
+    (PRISONERS, "strategy \"player1\" { () -> Cooperate; }"),
+    (
+        PRISONERS,
+        "strategy \"player2\" { () -> Cooperate; } strategy \"player1\" { () -> Cooperate; }",
+    ),
+    (
+        PRISONERS,
+        "strategy \"player1\" { () -> Cooperate; } strategy \"player2\" { () -> Other; }",
+    ),
+    (
+        PRISONERS,
+        "strategy \"player1\" { () -> Cooperate; } strategy \"player2\" { () -> Cooperate; } // both",
+    ),
+    (EMPTY, "strategy \"a\" { }"),
+];
+
 #[test]
-fn refused_strategies(rt: HostRuntime) -> Result<(), Fail> {
-    let cases = [
-        (PRISONERS, ""),
-        (PRISONERS, "strategy \"player1\" { () -> Cooperate; }"),
-        (
-            PRISONERS,
-            "strategy \"player2\" { () -> Cooperate; } strategy \"player1\" { () -> Cooperate; }",
-        ),
-        (
-            PRISONERS,
-            "strategy \"player1\" { () -> Cooperate; } strategy \"player2\" { () -> Other; }",
-        ),
-        (
-            PRISONERS,
-            "strategy \"player1\" { () -> Cooperate; } strategy \"player2\" { () -> Cooperate; } // both",
-        ),
-        (EMPTY, "strategy \"a\" { }"),
-    ];
-    for (game, strategy) in cases {
+fn refused_strategies(rt: HostRuntime) {
+    for (game, strategy) in REFUSED_STRATEGIES {
         let case = calm(game, strategy, BAD_STRATEGY, Status::StrategyText);
-        check(&rt, rt.alloc(), &case)?;
+        check(&rt, rt.alloc(), &case);
     }
-    Ok(())
 }
 
 /// A text of the greatest length is read, and one that is a byte longer isn't.
 #[test]
-fn lengths(rt: HostRuntime) -> Result<(), Fail> {
+fn lengths(rt: HostRuntime) {
     let alloc = rt.alloc();
-    let mut text = String::from_str(alloc, EMPTY)?;
+    let mut text = String::from_str(alloc, EMPTY).expect(&rt, "memory");
     for _ in text.len()..1_048_576 {
-        text.push(' ')?;
+        add(&rt, &mut text, " ");
     }
     let case = calm(text.as_str(), "", "equilibrium\n", Status::Done);
-    check(&rt, alloc, &case)?;
-    text.push(' ')?;
+    check(&rt, alloc, &case);
+    add(&rt, &mut text, " ");
     let case = calm(text.as_str(), "", BAD_GAME, Status::GameText);
-    check(&rt, alloc, &case)?;
+    check(&rt, alloc, &case);
     let case = calm(EMPTY, text.as_str(), BAD_STRATEGY, Status::StrategyText);
-    check(&rt, alloc, &case)?;
-    Ok(())
+    check(&rt, alloc, &case);
 }
 
 /// Words that are no command.
+const REFUSED_WORDS: [&str; 7] = [
+    "",
+    "check",
+    "check g",
+    "check g s s",
+    "check --json g",
+    "check g -s",
+    "demo 1",
+];
+
 #[test]
-fn refused_words(rt: HostRuntime) -> Result<(), Fail> {
-    let words = [
-        "",
-        "check",
-        "check g",
-        "check g s s",
-        "check --json g",
-        "check g -s",
-        "demo 1",
-    ];
-    for words in words {
+fn refused_words(rt: HostRuntime) {
+    for words in REFUSED_WORDS {
         let mut case = calm(EMPTY, "", "refused words\n", Status::Words);
         case.words = words;
-        check(&rt, rt.alloc(), &case)?;
+        check(&rt, rt.alloc(), &case);
     }
-    Ok(())
 }
+
+/// The load that fails, the strategy, how much of the put is written if it fails, and what the run
+/// writes, with its status.
+const FAULTS: [(Option<u32>, Option<&str>, Option<usize>, &str, Status); 7] = [
+    (
+        Some(1),
+        Some(""),
+        None,
+        "refused read game\n",
+        Status::ReadFault,
+    ),
+    (
+        Some(2),
+        Some(""),
+        None,
+        "refused read strategy\n",
+        Status::ReadFault,
+    ),
+    (
+        None,
+        None,
+        None,
+        "refused read strategy\n",
+        Status::ReadFault,
+    ),
+    (None, Some(""), Some(5), "equil", Status::WriteFault),
+    (None, Some(""), Some(0), "", Status::WriteFault),
+    (
+        None,
+        Some(""),
+        Some(99),
+        "equilibrium\n",
+        Status::WriteFault,
+    ),
+    (Some(1), Some(""), Some(7), "refused", Status::WriteFault),
+];
 
 /// A load or a put fails.
 #[test]
-fn faults(rt: HostRuntime) -> Result<(), Fail> {
-    let cases = [
-        (
-            Some(1),
-            Some(""),
-            None,
-            "refused read game\n",
-            Status::ReadFault,
-        ),
-        (
-            Some(2),
-            Some(""),
-            None,
-            "refused read strategy\n",
-            Status::ReadFault,
-        ),
-        (
-            None,
-            None,
-            None,
-            "refused read strategy\n",
-            Status::ReadFault,
-        ),
-        (None, Some(""), Some(5), "equil", Status::WriteFault),
-        (None, Some(""), Some(0), "", Status::WriteFault),
-        (
-            None,
-            Some(""),
-            Some(99),
-            "equilibrium\n",
-            Status::WriteFault,
-        ),
-        (Some(1), Some(""), Some(7), "refused", Status::WriteFault),
-    ];
-    for (failing_load, strategy, failing_put, written, status) in cases {
+fn faults(rt: HostRuntime) {
+    for (failing_load, strategy, failing_put, written, status) in FAULTS {
         let case = Case {
             words: "check g s",
             game: EMPTY,
@@ -379,25 +411,25 @@ fn faults(rt: HostRuntime) -> Result<(), Fail> {
             written,
             status,
         };
-        check(&rt, rt.alloc(), &case)?;
+        check(&rt, rt.alloc(), &case);
     }
-    Ok(())
 }
+
+const CODES: [(Status, u8); 9] = [
+    (Status::Done, 0),
+    (Status::Deviations, 1),
+    (Status::Words, 2),
+    (Status::GameText, 3),
+    (Status::StrategyText, 4),
+    (Status::Passes, 5),
+    (Status::ReadFault, 6),
+    (Status::WriteFault, 7),
+    (Status::Memory, 8),
+];
 
 #[test]
 fn codes(rt: HostRuntime) {
-    let codes = [
-        (Status::Done, 0),
-        (Status::Deviations, 1),
-        (Status::Words, 2),
-        (Status::GameText, 3),
-        (Status::StrategyText, 4),
-        (Status::Passes, 5),
-        (Status::ReadFault, 6),
-        (Status::WriteFault, 7),
-        (Status::Memory, 8),
-    ];
-    for (status, code) in codes {
-        assert_eq!(rt; status.code(), code, "{status:?}");
+    for (status, code) in CODES {
+        check_equal(&rt, status.code(), code);
     }
 }

@@ -1,7 +1,9 @@
+use crate::equal::check_equal;
 use og_io::{LoadFault, read_whole, write_whole};
+use std::alloc::Global;
 use std::io;
 use std::io::{ErrorKind, Read, Write};
-use std::test::Fail;
+use std::process::Abort;
 
 /// A reader of so many bytes `x` that gives at most `step` of them at once, and then ends, or fails.
 #[derive(Drop)]
@@ -32,51 +34,69 @@ impl Read for Slow {
     }
 }
 
-/// A reader is read to its end, whatever it gives at once. One that fails midway is refused by its
-/// error, and so is one that couldn't be opened.
+/// What is opened is read as so many bytes, or refused.
+fn check_read(
+    rt: &impl Abort,
+    alloc: Global,
+    opened: io::Result<Slow>,
+    cap: usize,
+    want: Result<usize, LoadFault>,
+) {
+    let read = read_whole(opened, alloc, cap).map(|bytes| bytes.len());
+    check_equal(rt, read, want);
+}
+
+const BROKEN: Option<ErrorKind> = Some(ErrorKind::BrokenPipe);
+
+/// How much a reader gives, at most how much of it at once, how it fails then, the cap, and what is read.
+const READS: [(
+    usize,
+    usize,
+    Option<ErrorKind>,
+    usize,
+    Result<usize, LoadFault>,
+); 11] = [
+    (0, 1, None, 9, Ok(0)),
+    (5, 1, None, 9, Ok(5)),
+    (9, 4, None, 9, Ok(9)),
+    (10, 4, None, 9, Err(LoadFault::Long)),
+    (70_000, 4_096, None, 70_000, Ok(70_000)),
+    (70_001, 4_096, None, 70_000, Err(LoadFault::Long)),
+    (7, 7, None, usize::MAX, Ok(7)),
+    (5, 2, BROKEN, 9, Err(LoadFault::Failed)),
+    (0, 2, BROKEN, 9, Err(LoadFault::Failed)),
+    (10, 4, BROKEN, 9, Err(LoadFault::Long)),
+    (
+        5,
+        2,
+        Some(ErrorKind::OutOfMemory),
+        9,
+        Err(LoadFault::Memory),
+    ),
+];
+
+/// A reader is read to its end, whatever it gives at once, and one that fails midway is refused by its
+/// error.
 #[test]
-fn readers(rt: HostRuntime) -> Result<(), Fail> {
-    let slow = |left, step, fails_with| {
-        Ok(Slow {
+fn readers(rt: HostRuntime) {
+    for (left, step, fails_with, cap, want) in READS {
+        let opened = Slow {
             left,
             step,
             interrupted: true,
             fails_with,
-        })
-    };
-    let broken = Some(ErrorKind::BrokenPipe);
-    let cases = [
-        (slow(0, 1, None), 9, Ok(0)),
-        (slow(5, 1, None), 9, Ok(5)),
-        (slow(9, 4, None), 9, Ok(9)),
-        (slow(10, 4, None), 9, Err(LoadFault::Long)),
-        (slow(70_000, 4_096, None), 70_000, Ok(70_000)),
-        (slow(70_001, 4_096, None), 70_000, Err(LoadFault::Long)),
-        (slow(7, 7, None), usize::MAX, Ok(7)),
-        (slow(5, 2, broken), 9, Err(LoadFault::Failed)),
-        (slow(0, 2, broken), 9, Err(LoadFault::Failed)),
-        (slow(10, 4, broken), 9, Err(LoadFault::Long)),
-        (
-            slow(5, 2, Some(ErrorKind::OutOfMemory)),
-            9,
-            Err(LoadFault::Memory),
-        ),
-        (
-            Err(io::Error::from(ErrorKind::NotFound)),
-            9,
-            Err(LoadFault::Failed),
-        ),
-        (
-            Err(io::Error::from(ErrorKind::OutOfMemory)),
-            9,
-            Err(LoadFault::Memory),
-        ),
-    ];
-    for (opened, cap, want) in cases {
-        let got = read_whole(opened, rt.alloc(), cap).map(|bytes| bytes.len());
-        assert_eq!(rt; got, want, "within {cap}");
+        };
+        check_read(&rt, rt.alloc(), Ok(opened), cap, want);
     }
-    Ok(())
+}
+
+/// A reader that couldn't be opened is refused by the error.
+#[test]
+fn readers_that_are_not_opened(rt: HostRuntime) {
+    let missing = Err(io::Error::from(ErrorKind::NotFound));
+    check_read(&rt, rt.alloc(), missing, 9, Err(LoadFault::Failed));
+    let memory = Err(io::Error::from(ErrorKind::OutOfMemory));
+    check_read(&rt, rt.alloc(), memory, 9, Err(LoadFault::Memory));
 }
 
 /// A writer that takes at most `step` bytes at once, `room` in all, and then takes nothing, or fails.
@@ -120,23 +140,24 @@ impl Write for Narrow {
     }
 }
 
+/// How much a writer takes, at most how much of it at once, how it fails then, whether it flushes, and
+/// the answer to 9,000 bytes.
+const WRITES: [(usize, usize, Option<ErrorKind>, bool, Result<(), usize>); 8] = [
+    (9_000, 9_000, None, true, Ok(())),
+    (9_000, 7, None, true, Ok(())),
+    (20_000, 4_096, BROKEN, true, Ok(())),
+    (8_999, 4_096, BROKEN, true, Err(8_999)),
+    (8_999, 4_096, None, true, Err(8_999)),
+    (4_096, 4_096, BROKEN, true, Err(4_096)),
+    (0, 9, BROKEN, true, Err(0)),
+    (9_000, 4_096, None, false, Err(9_000)),
+];
+
 /// All bytes are written and flushed, whatever the writer takes at once. One that fails midway, takes
 /// nothing or can't flush is told by the count of bytes that it took.
 #[test]
-fn writers(rt: HostRuntime) -> Result<(), Fail> {
-    let broken = Some(ErrorKind::BrokenPipe);
-    let bytes = [b'x'; 9_000];
-    let cases = [
-        (9_000, 9_000, None, true, Ok(())),
-        (9_000, 7, None, true, Ok(())),
-        (20_000, 4_096, broken, true, Ok(())),
-        (8_999, 4_096, broken, true, Err(8_999)),
-        (8_999, 4_096, None, true, Err(8_999)),
-        (4_096, 4_096, broken, true, Err(4_096)),
-        (0, 9, broken, true, Err(0)),
-        (9_000, 4_096, None, false, Err(9_000)),
-    ];
-    for (room, step, fails_with, flushes, want) in cases {
+fn writers(rt: HostRuntime) {
+    for (room, step, fails_with, flushes, want) in WRITES {
         let mut writer = Narrow {
             taken: 0,
             room,
@@ -146,18 +167,8 @@ fn writers(rt: HostRuntime) -> Result<(), Fail> {
             flushes,
             is_flushed: false,
         };
-        let got = write_whole(&mut writer, &bytes);
-        assert_eq!(rt; got, want, "{room} bytes, {step} at once");
-        assert_eq!(rt;
-            writer.taken,
-            room.min(9_000),
-            "{room} bytes, {step} at once"
-        );
-        assert_eq!(rt;
-            writer.is_flushed,
-            want.is_ok(),
-            "{room} bytes, {step} at once"
-        );
+        check_equal(&rt, write_whole(&mut writer, &[b'x'; 9_000]), want);
+        check_equal(&rt, writer.taken, room.min(9_000));
+        check_equal(&rt, writer.is_flushed, want.is_ok());
     }
-    Ok(())
 }
