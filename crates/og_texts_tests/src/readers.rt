@@ -130,7 +130,7 @@ fn tell_read_strategy(rt: &impl Abort, alloc: Global, text: &str, told: &mut Str
 }
 
 /// Texts, and the games that they are read as.
-const GAMES: [(&str, &str); 9] = [
+const GAMES: &[(&str, &str)] = &[
     (DILEMMA, DILEMMA_SHOWN),
     ("game main = block { :-----: :-----: } ;", ""),
     (
@@ -161,7 +161,7 @@ fn games(rt: HostRuntime) {
 }
 
 /// Texts, and the strategies that they are read as.
-const STRATEGIES: [(&str, &str); 5] = [
+const STRATEGIES: &[(&str, &str)] = &[
     (
         "strategy \"player1\" { ( ) -> Defect ; } strategy \"player2\" { ( ) -> Cooperate ; }",
         "player1 picks Defect\nplayer2 picks Cooperate\n",

@@ -104,15 +104,21 @@ fn game(rt: &impl Abort, alloc: Global, text: &str) -> SmallGame {
     made
 }
 
+fn section(rt: &impl Abort, alloc: Global, agent: &str, choice: &str) -> Section {
+    Section {
+        agent: name(rt, alloc, agent),
+        choice: name(rt, alloc, choice),
+    }
+}
+
 /// The strategy of a text: for each section its agent and its choice.
 fn strategy(rt: &impl Abort, alloc: Global, text: &str) -> List<Section> {
     let mut made = List::new(alloc);
     let mut words = text.split_whitespace();
     for _ in 0..5 {
         if let Some(agent) = words.next() {
-            let agent = name(rt, alloc, agent);
-            let choice = next_name(rt, alloc, &mut words);
-            made.add(Section { agent, choice }).expect(rt, "memory");
+            let section = section(rt, alloc, agent, words.next().unwrap_or(""));
+            made.add(section).expect(rt, "memory");
         }
     }
     made
@@ -139,20 +145,12 @@ fn tell_game(rt: &impl Abort, alloc: Global, text: &str, choices: &str, told: &m
     let game = game(rt, alloc, text);
     let sections = strategy(rt, alloc, choices);
     if !accepts(alloc, &game).expect(rt, "memory") {
-        tell(rt, told, "refused\n");
+        tell(rt, told, "refused");
     } else if fits(&game, sections.as_slice()) {
         tell_report(rt, alloc, &game, sections.as_slice(), told);
     } else {
-        tell(rt, told, "unfit\n");
+        tell(rt, told, "unfit");
     }
-}
-
-/// Adds whether the prisoner's dilemma with more after it is accepted.
-fn tell_accepted(rt: &impl Abort, alloc: Global, more: &str, told: &mut String) {
-    let mut game = game(rt, alloc, DILEMMA);
-    add_parts(rt, alloc, &mut game, more);
-    let accepted = accepts(alloc, &game).expect(rt, "memory");
-    tell(rt, told, if accepted { "accepted" } else { "refused" });
 }
 
 /// The prisoner's dilemma.
@@ -174,163 +172,146 @@ const SIDE: &str = "type Side Left Middle Right Back;
 const AGAIN: &str =
     "type Move C D; line b Move x; pays 4; line a Move y; pays 2; line b Move z; pays 3";
 
-/// Blocks of the choices, on the first line, and of what is told of the prisoner's dilemma with them.
-const DILEMMA_REPORTS: &str = "player1 C player2 C
-deviations 2
-value \"player1\" = 3
-value \"player2\" = 3
-decision 1 \"player1\" at () play D gain 2
-decision 2 \"player2\" at () play D gain 2
---
-player1 D player2 D
-equilibrium
-value \"player1\" = 1
-value \"player2\" = 1
---
-player1 C player2 D
-deviations 1
-value \"player1\" = 0
-value \"player2\" = 5
-decision 1 \"player1\" at () play D gain 1
---
-player2 C player1 C
-unfit
---
-player1 C player2 Move
-unfit
---
-player1 C
-unfit
---
-player1 C player2 C player1 C
-unfit
-";
-
-const FIRM_REPORTS: &str = "firm Low firm Low
-deviations 2
-value \"firm\" = 3
-decision 1 \"firm\" at () play High gain 1
-decision 2 \"firm\" at () play High gain 3
---
-firm High firm High
-equilibrium
-value \"firm\" = 11
-";
-
-const SIDE_REPORTS: &str = "solo Left
-deviations 2
-value \"solo\" = 1
-decision 1 \"solo\" at () play Middle gain 4
-decision 1 \"solo\" at () play Right gain 2
---
-solo Right
-deviations 1
-value \"solo\" = 3
-decision 1 \"solo\" at () play Middle gain 2
---
-solo Middle
-equilibrium
-value \"solo\" = 5
-";
-
-const AGAIN_REPORTS: &str = "b C a C b D
-equilibrium
-value \"b\" = 7
-value \"a\" = 2
-";
-
-const EMPTY_REPORTS: &str = "
-equilibrium
---
-player1 C
-unfit
-";
-
-/// With the choices of each block's first line, the rest of the block is told of the game.
-fn check_reports(rt: &impl Abort, alloc: Global, text: &str, blocks: &str) {
-    for block in blocks.split("--\n") {
-        let (choices, want) = block.split_once('\n').expect(rt, "choices");
-        let mut told = String::new(alloc);
-        tell_game(rt, alloc, text, choices, &mut told);
-        check_told(rt, choices, told.as_str(), want);
-    }
-}
+/// Games, strategies, and what is told about them.
+const REPORTS: &[(&str, &str, &str)] = &[
+    (
+        DILEMMA,
+        "player1 C player2 C",
+        "deviations 2\nvalue \"player1\" = 3\nvalue \"player2\" = 3\ndecision 1 \"player1\" at () play D gain 2\ndecision 2 \"player2\" at () play D gain 2\n",
+    ),
+    (
+        DILEMMA,
+        "player1 D player2 D",
+        "equilibrium\nvalue \"player1\" = 1\nvalue \"player2\" = 1\n",
+    ),
+    (
+        DILEMMA,
+        "player1 C player2 D",
+        "deviations 1\nvalue \"player1\" = 0\nvalue \"player2\" = 5\ndecision 1 \"player1\" at () play D gain 1\n",
+    ),
+    (
+        FIRM,
+        "firm Low firm Low",
+        "deviations 2\nvalue \"firm\" = 3\ndecision 1 \"firm\" at () play High gain 1\ndecision 2 \"firm\" at () play High gain 3\n",
+    ),
+    (
+        FIRM,
+        "firm High firm High",
+        "equilibrium\nvalue \"firm\" = 11\n",
+    ),
+    (
+        SIDE,
+        "solo Left",
+        "deviations 2\nvalue \"solo\" = 1\ndecision 1 \"solo\" at () play Middle gain 4\ndecision 1 \"solo\" at () play Right gain 2\n",
+    ),
+    (
+        SIDE,
+        "solo Right",
+        "deviations 1\nvalue \"solo\" = 3\ndecision 1 \"solo\" at () play Middle gain 2\n",
+    ),
+    (SIDE, "solo Middle", "equilibrium\nvalue \"solo\" = 5\n"),
+    (
+        AGAIN,
+        "b C a C b D",
+        "equilibrium\nvalue \"b\" = 7\nvalue \"a\" = 2\n",
+    ),
+    ("", "", "equilibrium\n"),
+    ("", "player1 C", "unfit"),
+    (DILEMMA, "player2 C player1 C", "unfit"),
+    (DILEMMA, "player1 C player2 Move", "unfit"),
+    (DILEMMA, "player1 C", "unfit"),
+    (DILEMMA, "player1 C player2 C player1 C", "unfit"),
+];
 
 #[test]
 fn reports(rt: HostRuntime) {
-    check_reports(&rt, rt.alloc(), DILEMMA, DILEMMA_REPORTS);
-    check_reports(&rt, rt.alloc(), FIRM, FIRM_REPORTS);
-    check_reports(&rt, rt.alloc(), SIDE, SIDE_REPORTS);
-    check_reports(&rt, rt.alloc(), AGAIN, AGAIN_REPORTS);
-    check_reports(&rt, rt.alloc(), "", EMPTY_REPORTS);
+    for (text, choices, want) in REPORTS {
+        let mut told = String::new(rt.alloc());
+        tell_game(&rt, rt.alloc(), text, choices, &mut told);
+        check_told(&rt, choices, told.as_str(), want);
+    }
 }
 
 /// What stands after the prisoner's dilemma, and whether all that is accepted.
-const MORE: &str = "accepted:
-accepted: type Side E; line a Side z; key x Move; key z Side; pays 1 C E; pays 2 D E";
+const ACCEPTED: &[(&str, bool)] = &[
+    ("", true),
+    (
+        "type Side E; line a Side z; key x Move; key z Side; pays 1 C E; pays 2 D E",
+        true,
+    ),
+    // names that differ, and none `main`
+    ("type Move E", false),
+    ("type D E", false),
+    ("type x E", false),
+    ("type Side E D", false),
+    ("type Side E E", false),
+    ("type Side y", false),
+    ("type Side Side", false),
+    ("line a Move x; pays 0", false),
+    ("line a Move C; pays 0", false),
+    ("type Side E main", false),
+    ("type main E", false),
+    ("line a Move main; pays 0", false),
+    ("line main Move z; pays 0", true),
+    // declared types, and keys that are outputs with their types
+    ("line a Side z; pays 0", false),
+    ("line a Move z; key x Side", false),
+    ("type Side E; line a Side z; key w Side; pays 0 E", false),
+    ("type Side E; line a Side z; key x Side; pays 0 E", false),
+    // a row for each joint key
+    ("line a Move z; key x Move; pays 1 D", false),
+    ("line a Move z; key x Move; pays 1 D; pays 2 C", true),
+    (
+        "line a Move z; key x Move; pays 1 D; pays 2 C; pays 1 D",
+        false,
+    ),
+    (
+        "line a Move z; key x Move; pays 1 D; pays 2 C; pays 1 x",
+        false,
+    ),
+    (
+        "line a Move z; key x Move; pays 1 D; pays 2 C; pays 1",
+        false,
+    ),
+    (
+        "line a Move z; key x Move; pays 1 D; pays 2 C; pays 1 C D",
+        false,
+    ),
+    ("line a Move z", false),
+    // numbers below 2^63
+    ("line a Move z; pays 9223372036854775807", true),
+    ("line a Move z; pays 9223372036854775808", false),
+    // sizes
+    ("type Side a b c d e f g h", true),
+    ("type Side a b c d e f g h i", false),
+    ("line a Move z; pays 0; line a Move w; pays 0", true),
+    (
+        "line a Move z; pays 0; line a Move w; pays 0; line a Move v; pays 0",
+        false,
+    ),
+    (
+        "type Side E; line a Side z; key z Side; key z Side; key z Side; key z Side; pays 0 E E E E",
+        true,
+    ),
+    (
+        "type Side E; line a Side z; key z Side; key z Side; key z Side; key z Side; key z Side; pays 0 E E E E E",
+        false,
+    ),
+];
 
-/// With more names: they have to differ, and none is `main`.
-const NAMES: &str = "refused: type Move E
-refused: type D E
-refused: type x E
-refused: type Side E D
-refused: type Side E E
-refused: type Side y
-refused: type Side Side
-refused: line a Move x; pays 0
-refused: line a Move C; pays 0
-refused: type Side E main
-refused: type main E
-refused: line a Move main; pays 0
-accepted: line main Move z; pays 0";
-
-/// With other columns: types have to be declared, and columns are outputs with their types.
-const COLUMNS: &str = "refused: line a Side z; pays 0
-refused: line a Move z; key x Side
-refused: type Side E; line a Side z; key w Side; pays 0 E
-refused: type Side E; line a Side z; key x Side; pays 0 E";
-
-/// With other rows: there is one for each joint key.
-const ROWS: &str = "refused: line a Move z; key x Move; pays 1 D
-accepted: line a Move z; key x Move; pays 1 D; pays 2 C
-refused: line a Move z; key x Move; pays 1 D; pays 2 C; pays 1 D
-refused: line a Move z; key x Move; pays 1 D; pays 2 C; pays 1 x
-refused: line a Move z; key x Move; pays 1 D; pays 2 C; pays 1
-refused: line a Move z; key x Move; pays 1 D; pays 2 C; pays 1 C D
-refused: line a Move z";
-
-/// With other numbers: they are below 2^63.
-const NUMBERS: &str = "accepted: line a Move z; pays 9223372036854775807
-refused: line a Move z; pays 9223372036854775808";
-
-/// With more of everything: there are bounds.
-const SIZES: &str = "accepted: type Side a b c d e f g h
-refused: type Side a b c d e f g h i
-accepted: line a Move z; pays 0; line a Move w; pays 0
-refused: line a Move z; pays 0; line a Move w; pays 0; line a Move v; pays 0
-accepted: type Side E; line a Side z; key z Side; key z Side; key z Side; key z Side; pays 0 E E E E
-refused: type Side E; line a Side z; key z Side; key z Side; key z Side; key z Side; key z Side; pays 0 E E E E E";
-
-/// The prisoner's dilemma is accepted or refused, as each line says, with what stands on the line.
-fn check_accepted(rt: &impl Abort, alloc: Global, lines: &str) {
-    for line in lines.lines() {
-        let (want, more) = line
-            .split_once(':')
-            .expect(rt, "what is wanted, and a text");
-        let mut told = String::new(alloc);
-        tell_accepted(rt, alloc, more, &mut told);
-        check_told(rt, more, told.as_str(), want);
-    }
+/// The prisoner's dilemma with more after it is accepted, or it isn't.
+fn check_accepted(rt: &impl Abort, alloc: Global, more: &str, want: bool) {
+    let mut game = game(rt, alloc, DILEMMA);
+    add_parts(rt, alloc, &mut game, more);
+    let accepted = accepts(alloc, &game).expect(rt, "memory");
+    assert!(rt; accepted == want, "with {more}");
 }
 
 #[test]
 fn accepted_games(rt: HostRuntime) {
-    check_accepted(&rt, rt.alloc(), MORE);
-    check_accepted(&rt, rt.alloc(), NAMES);
-    check_accepted(&rt, rt.alloc(), COLUMNS);
-    check_accepted(&rt, rt.alloc(), ROWS);
-    check_accepted(&rt, rt.alloc(), NUMBERS);
-    check_accepted(&rt, rt.alloc(), SIZES);
+    for (more, want) in ACCEPTED {
+        check_accepted(&rt, rt.alloc(), more, *want);
+    }
 }
 
 #[test]

@@ -38,46 +38,42 @@ fn tell_parts(rt: &impl Abort, alloc: Global, text: &str, told: &mut String) {
     }
 }
 
-/// Three colons and three hyphens in each of their orders, and after `%` the parts of each that are
-/// tokens: only a colon, three hyphens and a colon side by side are a separator.
-const PARTS: &str = "---::: % -|-|-|:|:|:|
---:-:: % -|-|:|-|:|:|
---::-: % -|-|:|:|-|:|
---:::- % -|-|:|:|:|-|
--:--:: % -|:|-|-|:|:|
--:-:-: % -|:|-|:|-|:|
--:-::- % -|:|-|:|:|-|
--::--: % -|:|:|-|-|:|
--::-:- % -|:|:|-|:|-|
--:::-- % -|:|:|:|-|-|
-:---:: % :---:|:|
-:--:-: % :|-|-|:|-|:|
-:--::- % :|-|-|:|:|-|
-:-:--: % :|-|:|-|-|:|
-:-:-:- % :|-|:|-|:|-|
-:-::-- % :|-|:|:|-|-|
-::---: % :|:---:|
-::--:- % :|:|-|-|:|-|
-::-:-- % :|:|-|:|-|-|
-:::--- % :|:|:|-|-|-|";
-
-fn check_parts(rt: &impl Abort, alloc: Global, text: &str, want: &str) {
-    let mut told = String::new(alloc);
-    tell_parts(rt, alloc, text, &mut told);
-    check_told(rt, text, told.as_str(), want);
-}
+/// Texts, and the parts of them that are tokens.
+const PARTS: &[(&str, &str)] = &[
+    (
+        "bid_\u{e9}->\"a b\"// x\n _y 007 :---:",
+        "bid_\u{e9}|->|\"a b\"|_y|007|:---:|",
+    ),
+    // Three colons and three hyphens in each of their orders: only a colon, three hyphens and a
+    // colon side by side are a separator.
+    ("---:::", "-|-|-|:|:|:|"),
+    ("--:-::", "-|-|:|-|:|:|"),
+    ("--::-:", "-|-|:|:|-|:|"),
+    ("--:::-", "-|-|:|:|:|-|"),
+    ("-:--::", "-|:|-|-|:|:|"),
+    ("-:-:-:", "-|:|-|:|-|:|"),
+    ("-:-::-", "-|:|-|:|:|-|"),
+    ("-::--:", "-|:|:|-|-|:|"),
+    ("-::-:-", "-|:|:|-|:|-|"),
+    ("-:::--", "-|:|:|:|-|-|"),
+    (":---::", ":---:|:|"),
+    (":--:-:", ":|-|-|:|-|:|"),
+    (":--::-", ":|-|-|:|:|-|"),
+    (":-:--:", ":|-|:|-|-|:|"),
+    (":-:-:-", ":|-|:|-|:|-|"),
+    (":-::--", ":|-|:|:|-|-|"),
+    ("::---:", ":|:---:|"),
+    ("::--:-", ":|:|-|-|:|-|"),
+    ("::-:--", ":|:|-|:|-|-|"),
+    (":::---", ":|:|:|-|-|-|"),
+];
 
 #[test]
 fn parts_of_texts(rt: HostRuntime) {
-    check_parts(
-        &rt,
-        rt.alloc(),
-        "bid_\u{e9}->\"a b\"// x\n _y 007 :---:",
-        "bid_\u{e9}|->|\"a b\"|_y|007|:---:|",
-    );
-    for line in PARTS.lines() {
-        let (text, want) = line.split_once(" % ").expect(&rt, "a text and its parts");
-        check_parts(&rt, rt.alloc(), text, want);
+    for (text, want) in PARTS {
+        let mut told = String::new(rt.alloc());
+        tell_parts(&rt, rt.alloc(), text, &mut told);
+        check_told(&rt, text, told.as_str(), want);
     }
 }
 
@@ -88,83 +84,106 @@ const WORDS: &str =
 const WORDS_SHOWN: &str =
     "Word(Type) 0..4;Word(Fn) 5..7;Word(Game) 8..12;Word(Block) 13..18;Word(Inputs) 19..25;Word(Feedback) 26..34;Word(Operation) 35..44;Word(Outputs) 45..52;Word(Returns) 53..60;Word(DependentDecision) 61..78;Word(Nature) 79..85;Word(ForwardFunction) 86..101;Word(BackwardFunction) 102..118;Word(Identity) 119..127;Word(Library) 128..135;Word(If) 136..138;Word(Then) 139..143;Word(Elif) 144..148;Word(Else) 149..153;Word(End) 154..157;Word(Table) 158..163;Word(And) 164..167;Word(Or) 168..170;Word(Not) 171..174;Word(True) 175..179;Word(False) 180..185;Word(Bool) 186..190;Word(Number) 191..197;Word(Agent) 198..203;Word(Ratio) 204..209;Word(Min) 210..213;Word(Max) 214..217;Word(Clamp) 218..223;Word(Strategy) 224..232;Word(Among) 233..238;Word(Branch) 239..245;Word(Version) 246..253;";
 
-/// Lines, and after `%` the tokens of each, or its fault.
-const TOKENS: &str = "a:---:b % Name 0..1;Separator 1..6;Name 6..7;
-a:--:b % Name 0..1;Mark(Colon) 1..2;Mark(Minus) 2..3;Mark(Minus) 3..4;Mark(Colon) 4..5;Name 5..6;
-:---: % Separator 0..5;
-:----: % Separator 0..6;
-::---: % Mark(Colon) 0..1;Separator 1..6;
-:---:: % Separator 0..5;Mark(Colon) 5..6;
-:-:--: % Mark(Colon) 0..1;Mark(Minus) 1..2;Mark(Colon) 2..3;Mark(Minus) 3..4;Mark(Minus) 4..5;Mark(Colon) 5..6;
-:--:-: % Mark(Colon) 0..1;Mark(Minus) 1..2;Mark(Minus) 2..3;Mark(Colon) 3..4;Mark(Minus) 4..5;Mark(Colon) 5..6;
----::: % Mark(Minus) 0..1;Mark(Minus) 1..2;Mark(Minus) 2..3;Mark(Colon) 3..4;Mark(Colon) 4..5;Mark(Colon) 5..6;
-:::--- % Mark(Colon) 0..1;Mark(Colon) 1..2;Mark(Colon) 2..3;Mark(Minus) 3..4;Mark(Minus) 4..5;Mark(Minus) 5..6;
--:--:: % Mark(Minus) 0..1;Mark(Colon) 1..2;Mark(Minus) 2..3;Mark(Minus) 3..4;Mark(Colon) 4..5;Mark(Colon) 5..6;
-:--->: % Mark(Colon) 0..1;Mark(Minus) 1..2;Mark(Minus) 2..3;Mark(Arrow) 3..5;Mark(Colon) 5..6;
-:---:---: % Separator 0..5;Mark(Minus) 5..6;Mark(Minus) 6..7;Mark(Minus) 7..8;Mark(Colon) 8..9;
->>>= % Mark(Then) 0..3;Mark(Assign) 3..4;
->>= % Mark(Greater) 0..1;Mark(AtLeast) 1..3;
-.. % Mark(DotDot) 0..2;
-... % Mark(DotDot) 0..2;Mark(Dot) 2..3;
-0..1 % Number(0) 0..1;Mark(DotDot) 1..3;Number(1) 3..4;
---> % Mark(Minus) 0..1;Mark(Arrow) 1..3;
-== % Mark(Equal) 0..2;
-=== % Mark(Equal) 0..2;Mark(Assign) 2..3;
-!=<=< % Mark(Differs) 0..2;Mark(AtMost) 2..4;Mark(Less) 4..5;
-{}()[] % Mark(LeftBrace) 0..1;Mark(RightBrace) 1..2;Mark(LeftParen) 2..3;Mark(RightParen) 3..4;Mark(LeftBracket) 4..5;Mark(RightBracket) 5..6;
-,;+*/&&& % Mark(Comma) 0..1;Mark(Semicolon) 1..2;Mark(Plus) 2..3;Mark(Star) 3..4;Mark(Slash) 4..5;Mark(Beside) 5..8;
-a//b % Name 0..1;
-a / b % Name 0..1;Mark(Slash) 2..3;Name 4..5;
-\u{e9}t\u{e9} = 1 % Name 0..5;Mark(Assign) 6..7;Number(1) 8..9;
-type Type typed % Word(Type) 0..4;Name 5..9;Name 10..15;
-1a a1 % Number(1) 0..1;Name 1..2;Name 3..5;
-_1 __ % Under 0..2;Under 3..5;
-007 % Number(7) 0..3;
-9223372036854775807 % Number(9223372036854775807) 0..19;
-\"a b\" \"\u{e9}\" % Text 0..5;Text 6..10;
-\"a % OpenText(0)
-x \"a\tb\" % OpenText(2)
-\"\u{7f}\" % OpenText(0)
-\"a\"\" % OpenText(3)
-x @ % BadChar(2)
-_ % BadChar(0)
-a _ b % BadChar(2)
-& % BadChar(0)
-&&&& % BadChar(3)
-! % BadChar(0)
-a\u{0} % BadChar(1)
-\u{e9} \u{a0} % BadChar(3)
-9223372036854775808 % WideNumber(0)
-1 00018446744073709551616 % WideNumber(2)
-@ \" % BadChar(0)";
-
-/// Texts that are not a line, and their tokens.
-const BREAKS: [(&str, &str); 5] = [
+/// Texts, and their tokens or their fault.
+const TOKENS: &[(&str, &str)] = &[
+    ("a:---:b", "Name 0..1;Separator 1..6;Name 6..7;"),
+    (
+        "a:--:b",
+        "Name 0..1;Mark(Colon) 1..2;Mark(Minus) 2..3;Mark(Minus) 3..4;Mark(Colon) 4..5;Name 5..6;",
+    ),
+    (":---:", "Separator 0..5;"),
+    (":----:", "Separator 0..6;"),
+    ("::---:", "Mark(Colon) 0..1;Separator 1..6;"),
+    (":---::", "Separator 0..5;Mark(Colon) 5..6;"),
+    (
+        ":-:--:",
+        "Mark(Colon) 0..1;Mark(Minus) 1..2;Mark(Colon) 2..3;Mark(Minus) 3..4;Mark(Minus) 4..5;Mark(Colon) 5..6;",
+    ),
+    (
+        ":--:-:",
+        "Mark(Colon) 0..1;Mark(Minus) 1..2;Mark(Minus) 2..3;Mark(Colon) 3..4;Mark(Minus) 4..5;Mark(Colon) 5..6;",
+    ),
+    (
+        "---:::",
+        "Mark(Minus) 0..1;Mark(Minus) 1..2;Mark(Minus) 2..3;Mark(Colon) 3..4;Mark(Colon) 4..5;Mark(Colon) 5..6;",
+    ),
+    (
+        ":::---",
+        "Mark(Colon) 0..1;Mark(Colon) 1..2;Mark(Colon) 2..3;Mark(Minus) 3..4;Mark(Minus) 4..5;Mark(Minus) 5..6;",
+    ),
+    (
+        "-:--::",
+        "Mark(Minus) 0..1;Mark(Colon) 1..2;Mark(Minus) 2..3;Mark(Minus) 3..4;Mark(Colon) 4..5;Mark(Colon) 5..6;",
+    ),
+    (
+        ":--->:",
+        "Mark(Colon) 0..1;Mark(Minus) 1..2;Mark(Minus) 2..3;Mark(Arrow) 3..5;Mark(Colon) 5..6;",
+    ),
+    (
+        ":---:---:",
+        "Separator 0..5;Mark(Minus) 5..6;Mark(Minus) 6..7;Mark(Minus) 7..8;Mark(Colon) 8..9;",
+    ),
+    (">>>=", "Mark(Then) 0..3;Mark(Assign) 3..4;"),
+    (">>=", "Mark(Greater) 0..1;Mark(AtLeast) 1..3;"),
+    ("..", "Mark(DotDot) 0..2;"),
+    ("...", "Mark(DotDot) 0..2;Mark(Dot) 2..3;"),
+    ("0..1", "Number(0) 0..1;Mark(DotDot) 1..3;Number(1) 3..4;"),
+    ("-->", "Mark(Minus) 0..1;Mark(Arrow) 1..3;"),
+    ("==", "Mark(Equal) 0..2;"),
+    ("===", "Mark(Equal) 0..2;Mark(Assign) 2..3;"),
+    (
+        "!=<=<",
+        "Mark(Differs) 0..2;Mark(AtMost) 2..4;Mark(Less) 4..5;",
+    ),
+    (
+        "{}()[]",
+        "Mark(LeftBrace) 0..1;Mark(RightBrace) 1..2;Mark(LeftParen) 2..3;Mark(RightParen) 3..4;Mark(LeftBracket) 4..5;Mark(RightBracket) 5..6;",
+    ),
+    (
+        ",;+*/&&&",
+        "Mark(Comma) 0..1;Mark(Semicolon) 1..2;Mark(Plus) 2..3;Mark(Star) 3..4;Mark(Slash) 4..5;Mark(Beside) 5..8;",
+    ),
     ("", ""),
     (" \t\r\n", ""),
+    ("a//b", "Name 0..1;"),
     ("a// @ \"\nb", "Name 0..1;Name 8..9;"),
     ("// \u{e9}\r\nb", "Name 7..8;"),
+    ("a / b", "Name 0..1;Mark(Slash) 2..3;Name 4..5;"),
+    (
+        "\u{e9}t\u{e9} = 1",
+        "Name 0..5;Mark(Assign) 6..7;Number(1) 8..9;",
+    ),
+    ("type Type typed", "Word(Type) 0..4;Name 5..9;Name 10..15;"),
+    ("1a a1", "Number(1) 0..1;Name 1..2;Name 3..5;"),
+    ("_1 __", "Under 0..2;Under 3..5;"),
+    ("007", "Number(7) 0..3;"),
+    ("9223372036854775807", "Number(9223372036854775807) 0..19;"),
+    ("\"a b\" \"\u{e9}\"", "Text 0..5;Text 6..10;"),
     (WORDS, WORDS_SHOWN),
+    // the first fault of a text without tokens
+    ("\"a", "OpenText(0)"),
+    ("x \"a\tb\"", "OpenText(2)"),
+    ("\"\u{7f}\"", "OpenText(0)"),
+    ("\"a\"\"", "OpenText(3)"),
+    ("x @", "BadChar(2)"),
+    ("_", "BadChar(0)"),
+    ("a _ b", "BadChar(2)"),
+    ("&", "BadChar(0)"),
+    ("&&&&", "BadChar(3)"),
+    ("!", "BadChar(0)"),
+    ("a\u{0}", "BadChar(1)"),
+    ("\u{e9} \u{a0}", "BadChar(3)"),
+    ("9223372036854775808", "WideNumber(0)"),
+    ("1 00018446744073709551616", "WideNumber(2)"),
+    ("@ \"", "BadChar(0)"),
 ];
-
-fn check_tokens(rt: &impl Abort, alloc: Global, text: &str, want: &str) {
-    let mut told = String::new(alloc);
-    tell_tokens(rt, alloc, text, &mut told);
-    check_told(rt, text, told.as_str(), want);
-}
-
-#[test]
-fn tokens_of_lines(rt: HostRuntime) {
-    for line in TOKENS.lines() {
-        let (text, want) = line.split_once(" % ").expect(&rt, "a text and its tokens");
-        check_tokens(&rt, rt.alloc(), text, want);
-    }
-}
 
 #[test]
 fn tokens_of_texts(rt: HostRuntime) {
-    for (text, want) in BREAKS {
-        check_tokens(&rt, rt.alloc(), text, want);
+    for (text, want) in TOKENS {
+        let mut told = String::new(rt.alloc());
+        tell_tokens(&rt, rt.alloc(), text, &mut told);
+        check_told(&rt, text, told.as_str(), want);
     }
 }
 

@@ -3,7 +3,6 @@ use og_io::{Files, HostFiles, HostSink, LoadFault, MemFiles, MemSink, PutFault, 
 use std::alloc::Global;
 use std::fs;
 use std::process::Abort;
-use std::test::Fail;
 
 /// Three files, of which the last stands in place of the first, and a fourth load that is to fail.
 fn stored(rt: &impl Abort, alloc: Global) -> MemFiles {
@@ -30,7 +29,7 @@ fn check_load(
 }
 
 /// Names, caps, and what each load answers.
-const LOADS: [(&str, usize, Result<&[u8], LoadFault>); 5] = [
+const LOADS: &[(&str, usize, Result<&[u8], LoadFault>)] = &[
     ("a", 5, Ok(b"three")),
     ("a", 4, Err(LoadFault::Long)),
     ("c", 9, Err(LoadFault::Failed)),
@@ -41,13 +40,13 @@ const LOADS: [(&str, usize, Result<&[u8], LoadFault>); 5] = [
 #[test]
 fn files_in_memory(rt: HostRuntime) {
     let mut files = stored(&rt, rt.alloc());
-    for (name, cap, want) in LOADS {
+    for &(name, cap, want) in LOADS {
         check_load(&rt, rt.alloc(), &mut files, (name, cap), want);
     }
 }
 
 /// Bytes that are put, what each put answers, and what is written after it.
-const PUTS: [(&str, Result<(), PutFault>, &str); 4] = [
+const PUTS: &[(&str, Result<(), PutFault>, &str)] = &[
     ("abc", Ok(()), "abc"),
     ("de", Err(PutFault::Failed), "abcde"),
     ("fg", Err(PutFault::Failed), "abcdef"),
@@ -61,7 +60,7 @@ fn a_sink_in_memory(rt: HostRuntime) {
     sink.fail(2, 9).expect(&rt, "memory");
     sink.fail(3, 9).expect(&rt, "memory");
     sink.fail(3, 1).expect(&rt, "memory");
-    for (bytes, want, written) in PUTS {
+    for &(bytes, want, written) in PUTS {
         check_equal(&rt, sink.put(bytes.as_bytes()), want);
         check_equal(&rt, sink.written(), written.as_bytes());
     }
@@ -69,13 +68,13 @@ fn a_sink_in_memory(rt: HostRuntime) {
 
 /// A file of the host at the cap, above it, and gone.
 #[test]
-fn files_of_the_host(rt: HostRuntime) -> Result<(), Fail> {
+fn files_of_the_host(rt: HostRuntime) {
     let name = "og_host_file";
-    fs::write(&rt, name, b"held")?;
+    fs::write(&rt, name, b"held").expect(&rt, "a write");
     let mut files = HostFiles::new(&rt, rt.alloc());
     check_load(&rt, rt.alloc(), &mut files, (name, 4), Ok(b"held"));
     check_load(&rt, rt.alloc(), &mut files, (name, 3), Err(LoadFault::Long));
-    fs::remove_file(&rt, name)?;
+    fs::remove_file(&rt, name).expect(&rt, "a removal");
     check_load(
         &rt,
         rt.alloc(),
@@ -83,7 +82,6 @@ fn files_of_the_host(rt: HostRuntime) -> Result<(), Fail> {
         (name, 4),
         Err(LoadFault::Failed),
     );
-    Ok(())
 }
 
 #[test]

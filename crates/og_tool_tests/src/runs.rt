@@ -87,12 +87,17 @@ fn run_case(alloc: Global, words: &[String], files: &mut MemFiles, out: &mut Mem
     run_with::<Brand>(alloc, words, files, out, Blank::new(1))
 }
 
+/// How the case's run over its files ends.
+fn status_of(rt: &impl Abort, alloc: Global, case: &Case<'_>, out: &mut MemSink) -> Status {
+    let mut files = files_of(rt, alloc, case);
+    let words = words_of(rt, alloc, case.words);
+    run_case(alloc, words.as_slice(), &mut files, out)
+}
+
 /// The run writes what the case says, and has its status.
 fn check(rt: &impl Abort, alloc: Global, case: &Case<'_>) {
-    let mut files = files_of(rt, alloc, case);
     let mut out = sink_of(rt, alloc, case);
-    let words = words_of(rt, alloc, case.words);
-    let status = run_case(alloc, words.as_slice(), &mut files, &mut out);
+    let status = status_of(rt, alloc, case, &mut out);
     check_equal(rt, str::from_utf8(out.written()), Ok(case.written));
     check_equal(rt, status, case.status);
 }
@@ -143,7 +148,7 @@ const THREE: &str = "type A = { L, R }; game main = block { :---:
 :---: };";
 
 /// Games that are accepted, strategies, the reports on them and the statuses.
-const REPORTS: [(&str, &str, &str, Status); 7] = [
+const REPORTS: &[(&str, &str, &str, Status)] = &[
     (EMPTY, "", "equilibrium\n", Status::Done),
     (EMPTY, " \n", "equilibrium\n", Status::Done),
     (
@@ -181,7 +186,7 @@ const REPORTS: [(&str, &str, &str, Status); 7] = [
 
 #[test]
 fn reports(rt: HostRuntime) {
-    for (game, strategy, written, status) in REPORTS {
+    for &(game, strategy, written, status) in REPORTS {
         check(&rt, rt.alloc(), &calm(game, strategy, written, status));
     }
 }
@@ -266,7 +271,7 @@ const PENNIES: &str = "type Side = { Heads, Tails }; game main = block { :-----:
   operation : dependentDecision \"odd\" [] Side ; outputs : y ; returns : if x == y then -1 else 1 end ;
 :-----: };";
 
-const REFUSED_GAMES: [&str; 15] = [
+const REFUSED_GAMES: &[&str] = &[
     "",
     PENNIES,
     "// a comment\ngame main = block { :---: :---: };",
@@ -299,7 +304,7 @@ fn refused_games(rt: HostRuntime) {
 }
 
 /// Strategies that are refused, after the games that they are for.
-const REFUSED_STRATEGIES: [(&str, &str); 6] = [
+const REFUSED_STRATEGIES: &[(&str, &str)] = &[
     (PRISONERS, ""),
     (PRISONERS, "strategy \"player1\" { () -> Cooperate; }"),
     (
@@ -319,7 +324,7 @@ const REFUSED_STRATEGIES: [(&str, &str); 6] = [
 
 #[test]
 fn refused_strategies(rt: HostRuntime) {
-    for (game, strategy) in REFUSED_STRATEGIES {
+    for &(game, strategy) in REFUSED_STRATEGIES {
         let case = calm(game, strategy, BAD_STRATEGY, Status::StrategyText);
         check(&rt, rt.alloc(), &case);
     }
@@ -343,7 +348,7 @@ fn lengths(rt: HostRuntime) {
 }
 
 /// Words that are no command.
-const REFUSED_WORDS: [&str; 7] = [
+const REFUSED_WORDS: &[&str] = &[
     "",
     "check",
     "check g",
@@ -364,7 +369,7 @@ fn refused_words(rt: HostRuntime) {
 
 /// The load that fails, the strategy, how much of the put is written if it fails, and what the run
 /// writes, with its status.
-const FAULTS: [(Option<u32>, Option<&str>, Option<usize>, &str, Status); 7] = [
+const FAULTS: &[(Option<u32>, Option<&str>, Option<usize>, &str, Status)] = &[
     (
         Some(1),
         Some(""),
@@ -401,7 +406,7 @@ const FAULTS: [(Option<u32>, Option<&str>, Option<usize>, &str, Status); 7] = [
 /// A load or a put fails.
 #[test]
 fn faults(rt: HostRuntime) {
-    for (failing_load, strategy, failing_put, written, status) in FAULTS {
+    for &(failing_load, strategy, failing_put, written, status) in FAULTS {
         let case = Case {
             words: "check g s",
             game: EMPTY,
@@ -415,7 +420,7 @@ fn faults(rt: HostRuntime) {
     }
 }
 
-const CODES: [(Status, u8); 9] = [
+const CODES: &[(Status, u8)] = &[
     (Status::Done, 0),
     (Status::Deviations, 1),
     (Status::Words, 2),
@@ -429,7 +434,7 @@ const CODES: [(Status, u8); 9] = [
 
 #[test]
 fn codes(rt: HostRuntime) {
-    for (status, code) in CODES {
+    for &(status, code) in CODES {
         check_equal(&rt, status.code(), code);
     }
 }

@@ -49,13 +49,13 @@ fn check_read(
 const BROKEN: Option<ErrorKind> = Some(ErrorKind::BrokenPipe);
 
 /// How much a reader gives, at most how much of it at once, how it fails then, the cap, and what is read.
-const READS: [(
+const READS: &[(
     usize,
     usize,
     Option<ErrorKind>,
     usize,
     Result<usize, LoadFault>,
-); 11] = [
+)] = &[
     (0, 1, None, 9, Ok(0)),
     (5, 1, None, 9, Ok(5)),
     (9, 4, None, 9, Ok(9)),
@@ -79,7 +79,7 @@ const READS: [(
 /// error.
 #[test]
 fn readers(rt: HostRuntime) {
-    for (left, step, fails_with, cap, want) in READS {
+    for &(left, step, fails_with, cap, want) in READS {
         let opened = Slow {
             left,
             step,
@@ -142,7 +142,7 @@ impl Write for Narrow {
 
 /// How much a writer takes, at most how much of it at once, how it fails then, whether it flushes, and
 /// the answer to 9,000 bytes.
-const WRITES: [(usize, usize, Option<ErrorKind>, bool, Result<(), usize>); 8] = [
+const WRITES: &[(usize, usize, Option<ErrorKind>, bool, Result<(), usize>)] = &[
     (9_000, 9_000, None, true, Ok(())),
     (9_000, 7, None, true, Ok(())),
     (20_000, 4_096, BROKEN, true, Ok(())),
@@ -157,7 +157,7 @@ const WRITES: [(usize, usize, Option<ErrorKind>, bool, Result<(), usize>); 8] = 
 /// nothing or can't flush is told by the count of bytes that it took.
 #[test]
 fn writers(rt: HostRuntime) {
-    for (room, step, fails_with, flushes, want) in WRITES {
+    for &(room, step, fails_with, flushes, want) in WRITES {
         let mut writer = Narrow {
             taken: 0,
             room,

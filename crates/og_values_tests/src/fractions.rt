@@ -23,7 +23,7 @@ fn frac(rt: &impl Abort, n: i64, d: u64) -> Frac {
     Frac::new(n, d).expect(rt, "a fraction that fits")
 }
 
-const LOWEST_TERMS: [(i64, u64, Result<(i64, u64), FracFault>); 14] = [
+const LOWEST_TERMS: &[(i64, u64, Result<(i64, u64), FracFault>)] = &[
     (6, 4, Ok((3, 2))),
     (-6, 4, Ok((-3, 2))),
     (0, 7, Ok((0, 1))),
@@ -50,7 +50,7 @@ const LOWEST_TERMS: [(i64, u64, Result<(i64, u64), FracFault>); 14] = [
 
 #[test]
 fn fractions_in_lowest_terms(rt: HostRuntime) {
-    for (n, d, want) in LOWEST_TERMS {
+    for &(n, d, want) in LOWEST_TERMS {
         check_equal(&rt, parts(Frac::new(n, d)), want);
     }
     check_equal(&rt, parts(Ok(Frac::whole(-7))), Ok((-7, 1)));
@@ -101,7 +101,7 @@ fn same(a: Frac, b: Frac) -> bool
 }
 
 /// Two fractions, and how the first stands to the second.
-const ORDERS: [(i64, u64, i64, u64, Ordering); 4] = [
+const ORDERS: &[(i64, u64, i64, u64, Ordering)] = &[
     (1, 2, 1, 3, Ordering::Greater),
     (-1, 2, 1, 3, Ordering::Less),
     (-1, 2, -1, 3, Ordering::Less),
@@ -110,7 +110,7 @@ const ORDERS: [(i64, u64, i64, u64, Ordering); 4] = [
 
 #[test]
 fn order_by_value(rt: HostRuntime) {
-    for (n, d, other_n, other_d, want) in ORDERS {
+    for &(n, d, other_n, other_d, want) in ORDERS {
         let first = frac(&rt, n, d);
         let second = frac(&rt, other_n, other_d);
         check_equal(&rt, first.cmp(&second), want);
@@ -130,7 +130,7 @@ fn operators_compare_by_value(rt: HostRuntime) {
     assert!(rt; !same(half, minus_half));
 }
 
-const FLOORS: [(i64, u64, i64); 8] = [
+const FLOORS: &[(i64, u64, i64)] = &[
     (3, 2, 1),
     (-3, 2, -2),
     (-4, 2, -2),
@@ -143,7 +143,7 @@ const FLOORS: [(i64, u64, i64); 8] = [
 
 #[test]
 fn floors(rt: HostRuntime) {
-    for (n, d, want) in FLOORS {
+    for &(n, d, want) in FLOORS {
         check_equal(&rt, frac(&rt, n, d).floor(), want);
     }
 }
@@ -175,7 +175,7 @@ fn parts_of_sum(
 }
 
 /// Weights, numerators and denominators, how many times they are taken, and the parts of their sum.
-const SUMS: [(&[(u64, i64, u64)], u64, Result<(u64, u128, i128), SumFault>); 13] = [
+const SUMS: &[(&[(u64, i64, u64)], u64, Result<(u64, u128, i128), SumFault>)] = &[
     (&[], 1, Ok((1, 0, 0))),
     (&[(2, 1, 2), (3, 1, 3)], 5, Ok((6, 12, 12))),
     (&[(2, 1, 2), (3, -1, 3)], 5, Ok((6, 12, 0))),
@@ -231,7 +231,7 @@ const SUMS: [(&[(u64, i64, u64)], u64, Result<(u64, u128, i128), SumFault>); 13]
 
 #[test]
 fn sums_of_terms(rt: HostRuntime) {
-    for (parts, times, want) in SUMS {
+    for &(parts, times, want) in SUMS {
         let made = terms(&rt, rt.alloc(), parts);
         check_equal(&rt, parts_of_sum(&rt, made.as_slice(), times), want);
     }

@@ -57,10 +57,16 @@ fn moves(rt: &impl Abort, alloc: Global) -> Enums {
     Enums { families }
 }
 
-/// The value prints as this.
-fn check_text(rt: &impl Abort, alloc: Global, value: &Value, want: &str) {
-    let text = show(alloc, value, &moves(rt, alloc)).expect(rt, "memory");
-    check_equal(rt, text.as_str(), want);
+/// The text of each value, with a space after it.
+fn shown(rt: &impl Abort, alloc: Global, values: &List<Value>) -> Text {
+    let enums = moves(rt, alloc);
+    let mut out = Text::from(alloc, "").expect(rt, "memory");
+    for value in values.as_slice() {
+        let text = show(alloc, value, &enums).expect(rt, "memory");
+        out.push_str(text.as_str()).expect(rt, "memory");
+        out.push_str(" ").expect(rt, "memory");
+    }
+    out
 }
 
 /// Whether the value has this rank, and is the one that stands there.
@@ -74,66 +80,68 @@ fn stands_at(alloc: Global, ty: &Ty, rank: u32, value: &Value) -> Result<bool, A
     }
 }
 
-/// The values of the type are as many as are counted, each has its rank and stands at it, and their
-/// tuple prints as this.
-fn check_values(rt: &impl Abort, alloc: Global, ty: &Ty, want: &str) {
+/// The values of the type are as many as are counted, each has its rank and stands at it, and this is
+/// their text.
+fn check_values(rt: &impl Abort, alloc: Global, ty: Ty, want: &str) {
     let count = ty.count().expect(rt, "a finite type");
     assert!(rt; count <= 4096 && ty.bounds_fit());
     let values = ty.values(alloc).expect(rt, "memory");
     check_equal(rt, values.len(), count as usize);
     for (rank, value) in values.as_slice().iter().enumerate() {
-        let stands = stands_at(alloc, ty, rank as u32, value).expect(rt, "memory");
+        let stands = stands_at(alloc, &ty, rank as u32, value).expect(rt, "memory");
         check_equal(rt, stands, true);
     }
     let past = ty.at_rank(alloc, count).expect(rt, "memory");
     check_equal(rt, past.is_none(), true);
-    check_text(rt, alloc, &Value::Tuple(values), want);
+    check_equal(rt, shown(rt, alloc, &values).as_str(), want);
 }
 
 const LISTINGS: [(Ty, &str); 5] = [
-    (Ty::Bool, "(false, true)"),
-    (Ty::Enum(0, 2), "(Cooperate, Defect)"),
-    (Ty::Range(-2, 1), "(-2, -1, 0, 1)"),
-    (Ty::Range(3, 3), "(3)"),
-    (Ty::Range(1, 0), "()"),
+    (Ty::Bool, "false true "),
+    (Ty::Enum(0, 2), "Cooperate Defect "),
+    (Ty::Range(-2, 1), "-2 -1 0 1 "),
+    (Ty::Range(3, 3), "3 "),
+    (Ty::Range(1, 0), ""),
 ];
 
 #[test]
 fn values_stand_in_order(rt: HostRuntime) {
     let alloc = rt.alloc();
     for (ty, want) in LISTINGS {
-        check_values(&rt, alloc, &ty, want);
+        check_values(&rt, alloc, ty, want);
     }
-    check_values(&rt, alloc, &Ty::Tuple(List::new(alloc)), "(())");
+    check_values(&rt, alloc, Ty::Tuple(List::new(alloc)), "() ");
 }
 
 #[test]
 fn tuples_stand_in_order(rt: HostRuntime) {
     let alloc = rt.alloc();
-    let moves = pair_of(&rt, alloc, Ty::Enum(0, 2), Ty::Bool);
+    check_values(
+        &rt,
+        alloc,
+        pair_of(&rt, alloc, Ty::Enum(0, 2), Ty::Bool),
+        "(Cooperate, false) (Cooperate, true) (Defect, false) (Defect, true) ",
+    );
     let inner = pair_of(&rt, alloc, Ty::Bool, Ty::Range(0, 1));
-    let nested = pair_of(&rt, alloc, inner, Ty::Range(5, 5));
+    check_values(
+        &rt,
+        alloc,
+        pair_of(&rt, alloc, inner, Ty::Range(5, 5)),
+        "((false, 0), 5) ((false, 1), 5) ((true, 0), 5) ((true, 1), 5) ",
+    );
     let none = pair_of(&rt, alloc, Ty::Range(0, i64::MAX), Ty::Range(1, 0));
-    let rows = [
-        (
-            &moves,
-            "((Cooperate, false), (Cooperate, true), (Defect, false), (Defect, true))",
-        ),
-        (
-            &nested,
-            "(((false, 0), 5), ((false, 1), 5), ((true, 0), 5), ((true, 1), 5))",
-        ),
-        (&none, "()"),
-    ];
-    for (ty, want) in rows {
-        check_values(&rt, alloc, ty, want);
-    }
+    check_values(&rt, alloc, none, "");
 }
 
 #[test]
 fn text_of_a_tuple(rt: HostRuntime) {
     let value = true_and(&rt, rt.alloc(), 1, 2);
-    check_text(&rt, rt.alloc(), &value, "(true, 1/2)");
+    let text = show(rt.alloc(), &value, &moves(&rt, rt.alloc())).expect(&rt, "memory");
+    check_equal(&rt, text.as_str(), "(true, 1/2)");
+}
+
+fn check_count(rt: &impl Abort, ty: Ty, want: Option<u32>) {
+    check_equal(rt, ty.count(), want);
 }
 
 const COUNTS: [(Ty, Option<u32>); 9] = [
@@ -151,10 +159,9 @@ const COUNTS: [(Ty, Option<u32>); 9] = [
 #[test]
 fn counts_end_above_the_limit(rt: HostRuntime) {
     for (ty, want) in COUNTS {
-        check_equal(&rt, ty.count(), want);
+        check_count(&rt, ty, want);
     }
-    let unit = Ty::Tuple(List::new(rt.alloc()));
-    check_equal(&rt, unit.count(), Some(1));
+    check_count(&rt, Ty::Tuple(List::new(rt.alloc())), Some(1));
 }
 
 const PAIR_COUNTS: [(Ty, Ty, Option<u32>); 4] = [
@@ -168,7 +175,7 @@ const PAIR_COUNTS: [(Ty, Ty, Option<u32>); 4] = [
 fn counts_of_pairs(rt: HostRuntime) {
     let alloc = rt.alloc();
     for (first, second, want) in PAIR_COUNTS {
-        check_equal(&rt, pair_of(&rt, alloc, first, second).count(), want);
+        check_count(&rt, pair_of(&rt, alloc, first, second), want);
     }
     let wide = pair_of(&rt, alloc, Ty::Bool, Ty::Range(i64::MIN, 0));
     check_equal(&rt, wide.bounds_fit(), false);
@@ -204,6 +211,14 @@ fn lists_of_values_have_ranks(rt: HostRuntime) {
     check_rank(&rt, alloc, &List::new(alloc), None);
 }
 
+/// Whether the list is of true and this fraction.
+fn is_true_and(rt: &impl Abort, alloc: Global, list: &List<Value>, n: i64, d: u64) -> bool {
+    let values = list_of_true_and(rt, alloc, n, d);
+    let copy = copy_values(alloc, &values).expect(rt, "memory");
+    check_equal(rt, values == copy, true);
+    same(list, &copy)
+}
+
 #[test]
 fn lists_of_values_stand_in_order(rt: HostRuntime) {
     let alloc = rt.alloc();
@@ -216,8 +231,8 @@ fn lists_of_values_stand_in_order(rt: HostRuntime) {
     for (rank, list) in all.as_slice().iter().enumerate() {
         check_equal(&rt, joint_rank(&types, list), Some(rank as u32));
     }
-    let values = list_of_true_and(&rt, alloc, -1, 1);
-    check_equal(&rt, all.get(3) == Some(&values), true);
+    let fourth = all.get(3).expect(&rt, "the fourth list");
+    check_equal(&rt, is_true_and(&rt, alloc, fourth, -1, 1), true);
 }
 
 #[test]
@@ -226,18 +241,12 @@ fn list_of_values_at_its_rank(rt: HostRuntime) {
     let types = flag_and_range(&rt, alloc);
     let count = joint_count(&types).expect(&rt, "finite types");
     assert!(rt; count <= 4096 && all_bounds_fit(&types));
-    let fourth = joint_at_rank(alloc, &types, 3).expect(&rt, "memory");
-    let fourth = fourth.expect(&rt, "the fourth list");
-    let values = list_of_true_and(&rt, alloc, -1, 1);
-    let copy = copy_values(alloc, &values).expect(&rt, "memory");
-    check_equal(&rt, same(&fourth, &copy), true);
-    check_equal(
-        &rt,
-        same(&fourth, &list_of_true_and(&rt, alloc, 1, 2)),
-        false,
-    );
     let past = joint_at_rank(alloc, &types, 6).expect(&rt, "memory");
     check_equal(&rt, past.is_none(), true);
+    let fourth = joint_at_rank(alloc, &types, 3).expect(&rt, "memory");
+    let fourth = fourth.expect(&rt, "the fourth list");
+    check_equal(&rt, is_true_and(&rt, alloc, &fourth, -1, 1), true);
+    check_equal(&rt, is_true_and(&rt, alloc, &fourth, 1, 2), false);
 }
 
 #[test]
@@ -252,16 +261,9 @@ fn lists_of_types(rt: HostRuntime) {
 }
 
 /// The first type fits the second, or it doesn't, and their join is this one.
-fn check_fit(
-    rt: &impl Abort,
-    alloc: Global,
-    (first, second): (&Ty, &Ty),
-    fits: bool,
-    join: Option<&Ty>,
-) {
-    check_equal(rt, first.fits(second), fits);
-    let found = first.join(alloc, second).expect(rt, "memory");
-    check_equal(rt, found.as_ref(), join);
+fn check_fit(rt: &impl Abort, alloc: Global, first: &Ty, second: &Ty, want: (bool, Option<&Ty>)) {
+    let join = first.join(alloc, second).expect(rt, "memory");
+    check_equal(rt, (first.fits(second), join.as_ref()), want);
 }
 
 const FITS: [(Ty, Ty, bool, Option<Ty>); 9] = [
@@ -294,7 +296,7 @@ const FITS: [(Ty, Ty, bool, Option<Ty>); 9] = [
 #[test]
 fn types_fit_and_join(rt: HostRuntime) {
     for (first, second, fits, join) in FITS {
-        check_fit(&rt, rt.alloc(), (&first, &second), fits, join.as_ref());
+        check_fit(&rt, rt.alloc(), &first, &second, (fits, join.as_ref()));
     }
 }
 
@@ -305,68 +307,51 @@ fn tuples_fit_and_join_by_components(rt: HostRuntime) {
     let large = pair_of(&rt, alloc, Ty::Number, Ty::Enum(0, 2));
     let other = pair_of(&rt, alloc, Ty::Number, Ty::Enum(1, 2));
     let none = Ty::Tuple(List::new(alloc));
-    check_fit(&rt, alloc, (&small, &large), true, Some(&large));
-    check_fit(&rt, alloc, (&large, &small), false, Some(&large));
-    check_fit(&rt, alloc, (&small, &other), false, None);
-    check_fit(&rt, alloc, (&small, &none), false, None);
-    check_fit(&rt, alloc, (&none, &none), true, Some(&none));
+    check_fit(&rt, alloc, &small, &large, (true, Some(&large)));
+    check_fit(&rt, alloc, &large, &small, (false, Some(&large)));
+    check_fit(&rt, alloc, &small, &other, (false, None));
+    check_fit(&rt, alloc, &small, &none, (false, None));
+    check_fit(&rt, alloc, &none, &none, (true, Some(&none)));
 }
 
 /// How the first value stands to the second, and so whether they are equal.
-fn check_order(rt: &impl Abort, first: &Value, second: &Value, want: Ordering) {
-    check_equal(rt, first.order(second), want);
+fn check_order(rt: &impl Abort, first: Value, second: Value, want: Ordering) {
+    check_equal(rt, first.order(&second), want);
     check_equal(rt, first == second, want.is_eq());
 }
 
 #[test]
 fn values_are_ordered(rt: HostRuntime) {
     let alloc = rt.alloc();
-    let first = true_and(&rt, alloc, 1, 3);
-    let second = true_and(&rt, alloc, 1, 2);
-    let copy = first.copy(alloc).expect(&rt, "memory");
-    check_order(&rt, &first, &second, Ordering::Less);
-    check_order(&rt, &second, &first, Ordering::Greater);
-    check_order(&rt, &first, &copy, Ordering::Equal);
-    check_order(
-        &rt,
-        &Value::Case(0, 3),
-        &Value::Case(0, 2),
-        Ordering::Greater,
-    );
-    check_order(&rt, &Value::Flag(false), &Value::Flag(true), Ordering::Less);
-    check_order(
-        &rt,
-        &fraction(&rt, -3, 2),
-        &fraction(&rt, -1, 1),
-        Ordering::Less,
-    );
+    let third = true_and(&rt, alloc, 1, 3);
+    check_order(&rt, third, true_and(&rt, alloc, 1, 2), Ordering::Less);
+    let half = true_and(&rt, alloc, 1, 2);
+    check_order(&rt, half, true_and(&rt, alloc, 1, 3), Ordering::Greater);
+    let third = true_and(&rt, alloc, 1, 3);
+    let copy = third.copy(alloc).expect(&rt, "memory");
+    check_order(&rt, third, copy, Ordering::Equal);
+    check_order(&rt, Value::Case(0, 3), Value::Case(0, 2), Ordering::Greater);
+    check_order(&rt, Value::Flag(false), Value::Flag(true), Ordering::Less);
+    let less = fraction(&rt, -3, 2);
+    check_order(&rt, less, fraction(&rt, -1, 1), Ordering::Less);
 }
 
-fn check_holds(rt: &impl Abort, ty: &Ty, value: &Value, want: bool) {
-    check_equal(rt, ty.holds(value), want);
+fn check_holds(rt: &impl Abort, ty: Ty, value: Value, want: bool) {
+    check_equal(rt, ty.holds(&value), want);
 }
 
 #[test]
 fn values_are_of_types(rt: HostRuntime) {
     let alloc = rt.alloc();
-    let value = true_and(&rt, alloc, 1, 3);
-    check_holds(
-        &rt,
-        &pair_of(&rt, alloc, Ty::Bool, Ty::Number),
-        &value,
-        true,
-    );
-    check_holds(
-        &rt,
-        &pair_of(&rt, alloc, Ty::Bool, Ty::Range(0, 1)),
-        &value,
-        false,
-    );
-    check_holds(&rt, &Ty::Range(-2, -1), &fraction(&rt, -2, 1), true);
-    check_holds(&rt, &Ty::Range(-2, -1), &fraction(&rt, -3, 2), false);
-    check_holds(&rt, &Ty::Range(-2, -1), &fraction(&rt, 0, 1), false);
-    check_holds(&rt, &Ty::Enum(0, 2), &Value::Case(0, 2), false);
-    check_holds(&rt, &Ty::Enum(0, 2), &Value::Case(1, 0), false);
+    let exact = pair_of(&rt, alloc, Ty::Bool, Ty::Number);
+    check_holds(&rt, exact, true_and(&rt, alloc, 1, 3), true);
+    let whole = pair_of(&rt, alloc, Ty::Bool, Ty::Range(0, 1));
+    check_holds(&rt, whole, true_and(&rt, alloc, 1, 3), false);
+    check_holds(&rt, Ty::Range(-2, -1), fraction(&rt, -2, 1), true);
+    check_holds(&rt, Ty::Range(-2, -1), fraction(&rt, -3, 2), false);
+    check_holds(&rt, Ty::Range(-2, -1), fraction(&rt, 0, 1), false);
+    check_holds(&rt, Ty::Enum(0, 2), Value::Case(0, 2), false);
+    check_holds(&rt, Ty::Enum(0, 2), Value::Case(1, 0), false);
 }
 
 /// The lesser of the two, by the bound alone.
@@ -384,6 +369,14 @@ fn values_are_ord(rt: HostRuntime) {
     check_equal(&rt, lesser(more, less), fraction(&rt, -3, 2));
 }
 
+/// The enum's number, the case's index, and its name.
+const CASES: &[(u32, u32, Option<&str>)] = &[
+    (0, 0, Some("Cooperate")),
+    (0, 1, Some("Defect")),
+    (0, 2, None),
+    (1, 0, None),
+];
+
 #[test]
 fn names_of_enums_and_cases(rt: HostRuntime) {
     let enums = moves(&rt, rt.alloc());
@@ -391,10 +384,9 @@ fn names_of_enums_and_cases(rt: HostRuntime) {
     check_equal(&rt, enums.families.len(), 1);
     check_equal(&rt, enums.name(0), Some("Move"));
     check_equal(&rt, enums.name(1), None);
-    check_equal(&rt, enums.case(0, 0), Some("Cooperate"));
-    check_equal(&rt, enums.case(0, 1), Some("Defect"));
-    check_equal(&rt, enums.case(0, 2), None);
-    check_equal(&rt, enums.case(1, 0), None);
+    for &(family, index, want) in CASES {
+        check_equal(&rt, enums.case(family, index), want);
+    }
 }
 
 #[test]
