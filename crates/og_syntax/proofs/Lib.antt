@@ -1,0 +1,2 @@
+pub mod WithoutPlaces
+pub mod CanonicalForms
