@@ -1,2 +1,1 @@
 pub mod WithoutPlaces
-pub mod CanonicalForms

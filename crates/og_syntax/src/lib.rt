@@ -1,10 +1,9 @@
 //! The trees of programs and of strategy files, as they are written: each node with the place of its
 //! first token. Places are byte offsets in the text. A copy equals what it copies, places included. Trees are
-//! compared without their places. The canonical text of a strategy file is that of its tree.
+//! compared without their places.
 #![tactic(auto)]
 
 mod boxes;
-mod canonical;
 mod declarations;
 mod expressions;
 mod games;
@@ -12,9 +11,7 @@ pub mod laws;
 mod strategies;
 mod types;
 mod values;
-mod writing;
 
-pub use canonical::print_strategy;
 pub use declarations::{Decl, GameParam, ParamKind, Program};
 pub use expressions::{CompareOp, ExprTree, IfArm, ProductPart, ResultTree, SumPart, TableRow};
 pub use games::{AgentTree, Among, AmongTree, ArgTree, ArmTree, BlockTree, GameTree, LineTree};

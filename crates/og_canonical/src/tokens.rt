@@ -1,6 +1,6 @@
 //! Tokens of the canonical text, added at the end of a text.
 ghost use Rattle.std.specs.Prelude.{◌≡◌, ◌++◌, OnOk};
-ghost use Rattle.og_syntax.specs.Canonical.{spaced, ends_line, mark, word, quoted, number, whole};
+ghost use Rattle.og_canonical.specs.Tokens.{spaced, ends_line, mark, word, separator, quoted, number, whole};
 
 use og_lex::{Mark, Word};
 use og_list::Text;
@@ -17,6 +17,7 @@ fn ends_line(mark: Mark) -> bool
 }
 
 /// Adds a token that is written like this.
+#[tactic(auto, unfolding(crate::specs::Tokens::spaced))]
 pub(crate) fn write_token(token: &str, out: &mut Text) -> Result<(), AllocError>
     ensures { OnOk result (out.new ≡ out.old ++ spaced token.now) }
 {
@@ -25,6 +26,7 @@ pub(crate) fn write_token(token: &str, out: &mut Text) -> Result<(), AllocError>
 }
 
 /// Adds a mark.
+#[tactic(auto, unfolding(crate::specs::Tokens::mark))]
 pub(crate) fn write_mark(sign: Mark, out: &mut Text) -> Result<(), AllocError>
     ensures { OnOk result (out.new ≡ out.old ++ mark sign) }
 {
@@ -33,13 +35,23 @@ pub(crate) fn write_mark(sign: Mark, out: &mut Text) -> Result<(), AllocError>
 }
 
 /// Adds a reserved word.
+#[tactic(auto, unfolding(crate::specs::Tokens::word))]
 pub(crate) fn write_word(reserved: Word, out: &mut Text) -> Result<(), AllocError>
     ensures { OnOk result (out.new ≡ out.old ++ word reserved) }
 {
     write_token(reserved.text(), out)
 }
 
+/// Adds a separator.
+#[tactic(auto, unfolding(crate::specs::Tokens::separator))]
+pub(crate) fn write_separator(out: &mut Text) -> Result<(), AllocError>
+    ensures { OnOk result (out.new ≡ out.old ++ separator) }
+{
+    out.push_str(":-----:\n")
+}
+
 /// Adds a name in quotes.
+#[tactic(auto, unfolding(crate::specs::Tokens::quoted))]
 pub(crate) fn write_quoted(name: &str, out: &mut Text) -> Result<(), AllocError>
     ensures { OnOk result (out.new ≡ out.old ++ quoted name.now) }
 {
@@ -49,6 +61,7 @@ pub(crate) fn write_quoted(name: &str, out: &mut Text) -> Result<(), AllocError>
 }
 
 /// Adds a number.
+#[tactic(auto, unfolding(crate::specs::Tokens::number))]
 pub(crate) fn write_number(alloc: Global, n: u64, out: &mut Text) -> Result<(), AllocError>
     ensures { OnOk result (out.new ≡ out.old ++ number n) }
 {
@@ -57,6 +70,7 @@ pub(crate) fn write_number(alloc: Global, n: u64, out: &mut Text) -> Result<(), 
 }
 
 /// Adds a whole number.
+#[tactic(auto, unfolding(crate::specs::Tokens::whole))]
 pub(crate) fn write_whole(alloc: Global, n: i64, out: &mut Text) -> Result<(), AllocError>
     ensures { OnOk result (out.new ≡ out.old ++ whole n) }
 {
