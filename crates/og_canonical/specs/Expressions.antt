@@ -4,7 +4,7 @@
 -- only where an expression's level is below it.
 --
 -- `expr_step` is the rule for one form, whose parts have their levels and texts already.
-use Rattle.std.specs.Prelude.{ℕ, ℤ, nat_lt, if◌then◌else◌, List, [], ◌∷◌, ◌++◌, map, flat_map}
+use Rattle.std.specs.Prelude.{ℕ, nat_lt, if◌then◌else◌, List, [], ◌∷◌, ◌++◌, map, flat_map}
 use Rattle.og_lex.specs.declared.token.Word.TheVariants as words
 use Rattle.og_lex.specs.declared.token.Mark.{Mark}
 use Rattle.og_lex.specs.declared.token.Mark.TheVariants as marks

@@ -25,7 +25,7 @@ use Rattle.og_syntax.specs.declared.games.GameTree.{GameTree}
 use Rattle.og_syntax.specs.declared.games.GameTree.TheOpen.{GameTree-F}
 use Rattle.og_syntax.specs.declared.games.GameTree.TheOpen as game_level
 use Rattle.og_syntax.specs.declared.games.GameTree.TheFolds.{fold-GameTree}
-use Rattle.og_canonical.specs.Tokens.{spaced, mark, word, separator, quoted, commas, in_parens, in_braces, optional}
+use Rattle.og_canonical.specs.Tokens.{spaced, mark, word, separator, quoted, in_parens, in_braces, optional}
 use Rattle.og_canonical.specs.Values.{value_text, values_text, key_text, row_text}
 use Rattle.og_canonical.specs.Types.{ty_text, tys_text, params_text, names_text}
 use Rattle.og_canonical.specs.Expressions.{Shown, at_least, anywhere, exprs_text, results_text}

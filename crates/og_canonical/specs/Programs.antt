@@ -5,8 +5,6 @@ use Rattle.og_lex.specs.declared.token.Mark.TheVariants as marks
 use Rattle.og_syntax.specs.declared.types.NameTree.{NameTree}
 use Rattle.og_syntax.specs.declared.types.ParamTree.{ParamTree}
 use Rattle.og_syntax.specs.declared.types.TyTree.{TyTree}
-use Rattle.og_syntax.specs.declared.expressions.ExprTree.{ExprTree}
-use Rattle.og_syntax.specs.declared.games.GameTree.{GameTree}
 use Rattle.og_syntax.specs.declared.declarations.Program.{Program}
 use Rattle.og_syntax.specs.declared.declarations.Decl.{Decl}
 use Rattle.og_syntax.specs.declared.declarations.Decl.TheVariants as decls

@@ -1,1 +1,2 @@
 pub mod WithoutPlaces
+pub mod Walks

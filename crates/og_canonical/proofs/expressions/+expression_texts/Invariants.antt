@@ -1,8 +1,7 @@
 use Rattle.std.proofs.Common.{◌≡◌, ◌++◌, take, map}
 use Rattle.std.specs.Prelude.{flat_map}
 use Rattle.og_lex.specs.declared.token.Word.TheVariants as words
-use Rattle.og_lex.specs.declared.token.Mark.TheVariants as marks
-use Rattle.og_canonical.specs.Tokens.{word, mark, joined}
+use Rattle.og_canonical.specs.Tokens.{word, joined}
 use Rattle.og_canonical.specs.Expressions.{shown, at_least, expr_text, exprs_text, results_text, sum_part, product_part, arm_text, table_row_text}
 use Rattle.og_canonical.proofs.expressions.+expression_texts.Given as goal
 
