@@ -1,2 +1,3 @@
 pub mod WithoutPlaces
 pub mod Walks
+pub mod Matched

@@ -10,8 +10,8 @@ use Rattle.og_syntax.specs.declared.depth.Role.TheVariants as roles
 use Rattle.og_syntax.specs.Deep.{role_of, open_step, open_in, operator_step, operators_in, IsDeepBehind, before, IsDeep}
 use Rattle.og_syntax.specs.Counts.{Passes}
 
--- with so many brackets depth, the counts have, from the innermost to the outermost, what the walk tells from inside
--- so many brackets, and from inside more it tells nothing
+-- the brackets that are open, and the counts that are kept for them, the outermost first, against what the walks tell
+-- from inside so many brackets: from inside more than are open they tell nothing
 pub record Kept (opened operators : ℕ → ℕ) (depth : ℕ) (counts : List ℕ) : Type 0 where
   pub brackets : (inside : ℕ) → opened inside ≡ depth - inside
   pub held : (inside : ℕ) → inside ≤ depth → get_or counts (depth - inside) 0 ≡ operators inside
@@ -165,7 +165,7 @@ bounded roles.Composes depth counts after made p small = omega (arith, p.1)
 bounded roles.Ends depth counts after made p small = omega (arith, p.0)
 bounded roles.Other depth counts after made p small = omega (arith, p.0)
 
-one_more : (tokens : List Token) (at : ℕ) (t : Token) → at < length tokens → slice_get tokens at ≡ Some t
+pub one_more : (tokens : List Token) (at : ℕ) (t : Token) → at < length tokens → slice_get tokens at ≡ Some t
     → before tokens (at + 1) ≡ t ∷ before tokens at
 one_more tokens at t lt is =
     ap reverse (take_more tokens at t lt ∙ ap (λ x. take at tokens ++ x ∷ []) (get_or_from_slice_get tokens at t t is))

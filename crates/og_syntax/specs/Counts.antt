@@ -10,7 +10,7 @@ IsFull roles.Opens depth counts = 64 ≤ depth
 IsFull roles.Composes depth counts = 32 ≤ slice_index counts depth
 IsFull _ depth counts = ⊥
 
--- the token is passed, with so many brackets depth before and after it
+-- the token is passed, with so many brackets open before it and after it
 abbrev pub Passes : Role → (depth : ℕ) → (counts : List ℕ) → (after : ℕ) → (made : List ℕ) → Type 0
 Passes roles.Opens depth counts after made =
     (depth < 64) × (after ≡ depth + 1) × (made ≡ slice_set counts (depth + 1) 0)

@@ -1,10 +1,10 @@
 -- When a token is too deep: it opens a bracket while 64 are open, or it is the 33rd `>>>` or `&&&` of one game
 -- expression outside inner brackets. Brackets are `(`, `[`, `{`, and `if`, which is open until its `end`.
 --
--- What stands before a token is told by a walk from it back to the start. The walk may go into brackets: `inside`
--- says how many it is in that were closed before it came to where they open. A bracket that it meets outside these
--- is open at the token.
-use Rattle.std.specs.Prelude.{ℕ, zero, suc, ◌≤◌, List, [], ◌∷◌, take, reverse, slice_get, IsSomeAnd}
+-- What stands before a token is told by a walk back from it. At a closing token the walk goes into that bracket, and
+-- it leaves it where that bracket opens; `inside` says in how many it is. What opens while it is in none is still open
+-- at the token. A closing token with nothing to close is passed over by all that stands behind it.
+use Rattle.std.specs.Prelude.{ℕ, zero, suc, ◌≤◌, Bool, true, false, List, [], ◌∷◌, take, reverse, count_by, slice_get, IsSomeAnd}
 use Rattle.og_lex.specs.declared.token.Token.{Token}
 use Rattle.og_lex.specs.declared.token.Kind.{Kind}
 use Rattle.og_lex.specs.declared.token.Kind.TheVariants as kinds
@@ -71,3 +71,19 @@ before tokens k = reverse (take k tokens)
 -- the k-th token is there, and is too deep
 abbrev pub IsDeep : List Token → ℕ → Type 0
 IsDeep tokens k = IsSomeAnd (slice_get tokens k) (λ t. IsDeepBehind (before tokens k) (role_of t.kind))
+
+-- ---- how many of the tokens open a bracket, and how many close one
+
+abbrev pub is_opening : Role → Bool
+is_opening roles.Opens = true
+is_opening _ = false
+
+abbrev pub is_closing : Role → Bool
+is_closing roles.Closes = true
+is_closing _ = false
+
+abbrev pub opened : List Token → ℕ
+opened = count_by (λ t. is_opening (role_of t.kind))
+
+abbrev pub closed : List Token → ℕ
+closed = count_by (λ t. is_closing (role_of t.kind))
