@@ -3,7 +3,7 @@
 --
 -- What stands before a token is told by a walk back from it. At a closing token the walk goes into that bracket, and
 -- it leaves it where that bracket opens; `inside` says in how many it is. What opens while it is in none is still open
--- at the token. A closing token with nothing to close is passed over by all that stands behind it.
+-- at the token. What stands before a closing token that closes nothing isn't met.
 use Rattle.std.specs.Prelude.{ℕ, zero, suc, ◌≤◌, Bool, true, false, List, [], ◌∷◌, take, reverse, count_by, slice_get, IsSomeAnd}
 use Rattle.og_lex.specs.declared.token.Token.{Token}
 use Rattle.og_lex.specs.declared.token.Kind.{Kind}
