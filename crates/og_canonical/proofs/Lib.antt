@@ -1,0 +1,5 @@
+pub mod ValueForms
+pub mod TypeForms
+pub mod ExprForms
+pub mod GameForms
+pub mod Optional

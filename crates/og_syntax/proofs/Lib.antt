@@ -1,0 +1,3 @@
+pub mod WithoutPlaces
+pub mod Walks
+pub mod Matched

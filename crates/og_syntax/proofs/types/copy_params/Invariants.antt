@@ -1,0 +1,5 @@
+use Rattle.std.proofs.Common.{◌≡◌, take}
+use Rattle.og_syntax.proofs.types.copy_params.Given as goal
+
+abbrev pub invariant-params : goal.invariant-params
+invariant-params l = l.all ≡ take l.param-index l.params

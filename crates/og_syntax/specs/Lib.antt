@@ -1,0 +1,3 @@
+pub mod Unplaced
+pub mod Deep
+pub mod Counts

@@ -1,0 +1,184 @@
+ghost use Rattle.std.specs.Prelude.{◌≡◌, IfOk};
+
+use crate::expressions::ExprTree;
+use crate::games::GameTree;
+use crate::types::{NameTree, ParamTree, TyTree, copy_names, copy_params};
+use og_list::{List, Text};
+use std::alloc::{AllocError, Global};
+
+/// A program: its declarations, in order.
+#[derive(Debug, Drop)]
+pub struct Program {
+    /// The length of the text.
+    pub at: u32,
+    /// The version of the language that the text asks for: 2 where it says so, else 1.
+    pub version: u32,
+    /// The declarations, in order.
+    pub decls: List<Decl>,
+}
+
+/// A declaration.
+#[derive(Debug, Drop)]
+pub enum Decl {
+    /// A type by its cases.
+    Enum {
+        /// The place of the type's name.
+        at: u32,
+        /// The type's name.
+        name: Text,
+        /// The cases, in order: one or more.
+        cases: List<NameTree>,
+    },
+    /// A name for a type.
+    Alias {
+        /// The place of the name.
+        at: u32,
+        /// The name.
+        name: Text,
+        /// The type.
+        ty: TyTree,
+    },
+    /// A function.
+    Fn {
+        /// The place of the function's name.
+        at: u32,
+        /// The function's name.
+        name: Text,
+        /// The parameters, in order.
+        params: List<ParamTree>,
+        /// The type of what it gives.
+        answer: TyTree,
+        /// What it gives.
+        body: ExprTree,
+    },
+    /// A game.
+    Game {
+        /// The place of the game's name.
+        at: u32,
+        /// The game's name.
+        name: Text,
+        /// The parameters, in order.
+        params: List<GameParam>,
+        /// The game.
+        body: GameTree,
+    },
+}
+
+/// A parameter of a game.
+#[derive(Debug, Drop)]
+pub struct GameParam {
+    /// The place of the parameter.
+    pub at: u32,
+    /// The parameter.
+    pub name: Text,
+    /// What it stands for.
+    pub kind: ParamKind,
+}
+
+/// What a parameter of a game stands for.
+#[derive(Debug, Drop)]
+pub enum ParamKind {
+    /// An agent's name.
+    Agent,
+    /// A value of a type.
+    Of(TyTree),
+}
+
+impl Program {
+    /// An equal program, in memory of its own.
+    pub fn copy(&self, alloc: Global) -> Result<Program, AllocError>
+        ensures { IfOk result (λ made. made ≡ self.now) }
+    {
+        let mut decls = List::new(alloc);
+        'decls: for decl in self.decls.as_slice() {
+            decls.add(decl.copy(alloc)?)?;
+        }
+        Ok(Program {
+            at: self.at,
+            version: self.version,
+            decls,
+        })
+    }
+}
+
+impl Decl {
+    /// An equal declaration, in memory of its own.
+    pub fn copy(&self, alloc: Global) -> Result<Decl, AllocError>
+        ensures { IfOk result (λ made. made ≡ self.now) }
+    {
+        match self {
+            Decl::Enum { at, name, cases } => Ok(Decl::Enum {
+                at: *at,
+                name: name.copy(alloc)?,
+                cases: copy_names(alloc, cases)?,
+            }),
+            Decl::Alias { at, name, ty } => Ok(Decl::Alias {
+                at: *at,
+                name: name.copy(alloc)?,
+                ty: ty.copy(alloc)?,
+            }),
+            Decl::Fn {
+                at,
+                name,
+                params,
+                answer,
+                body,
+            } => Ok(Decl::Fn {
+                at: *at,
+                name: name.copy(alloc)?,
+                params: copy_params(alloc, params)?,
+                answer: answer.copy(alloc)?,
+                body: body.copy(alloc)?,
+            }),
+            Decl::Game {
+                at,
+                name,
+                params,
+                body,
+            } => Ok(Decl::Game {
+                at: *at,
+                name: name.copy(alloc)?,
+                params: copy_game_params(alloc, params)?,
+                body: body.copy(alloc)?,
+            }),
+        }
+    }
+}
+
+impl GameParam {
+    /// An equal parameter, in memory of its own.
+    pub fn copy(&self, alloc: Global) -> Result<GameParam, AllocError>
+        ensures { IfOk result (λ made. made ≡ self.now) }
+    {
+        let name = self.name.copy(alloc)?;
+        let kind = self.kind.copy(alloc)?;
+        Ok(GameParam {
+            at: self.at,
+            name,
+            kind,
+        })
+    }
+}
+
+impl ParamKind {
+    /// An equal kind, in memory of its own.
+    pub fn copy(&self, alloc: Global) -> Result<ParamKind, AllocError>
+        ensures { IfOk result (λ made. made ≡ self.now) }
+    {
+        match self {
+            ParamKind::Agent => Ok(ParamKind::Agent),
+            ParamKind::Of(ty) => Ok(ParamKind::Of(ty.copy(alloc)?)),
+        }
+    }
+}
+
+/// Equal parameters, in the same order, in memory of their own.
+fn copy_game_params(alloc: Global, params: &List<GameParam>) -> Result<List<GameParam>, AllocError>
+    ensures { IfOk result (λ made. made ≡ params.now) }
+{
+    let mut all = List::new(alloc);
+    'params: for param in params.as_slice() {
+        all.add(param.copy(alloc)?)?;
+    }
+    Ok(all)
+}
