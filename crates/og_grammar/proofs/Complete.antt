@@ -1,39 +1,50 @@
 -- What is spelled is read, whatever follows that the rule wouldn't go on with.
-use Rattle.std.proofs.Common.{◌≡◌, ℕ, zero, suc, ◌≤◌, Bool, true, false, not, ◌&&◌, List, [], ◌∷◌, ◌++◌, length, Ok, inl, inr, refl, sym, ◌∙◌, ap, arith, append_assoc, length-append}
+use Rattle.std.proofs.Common.{◌≡◌, ℕ, zero, suc, ◌≤◌, Bool, true, false, not, ◌&&◌, List, [], ◌∷◌, ◌++◌, length, Ok, Err, inl, inr, refl, sym, ◌∙◌, ap, arith, append_assoc, length-append}
 use Rattle.std.proofs.lemmas.Bool.{and_parts, not-true, false≢true}
-use Rattle.og_lex.specs.declared.token.Token.{Token}
-use Rattle.og_lex.specs.declared.token.Kind.{Kind}
-use Rattle.og_grammar.specs.Rule.{Rule, one, give, seq, alt, star, map, at, spells, IsPlaceOf, IsToken, EachInTurn}
-use Rattle.og_grammar.specs.Reading.{apart, kinds_if, sees_any, nullable, first, more, fine, Outcome, and_then, with_value, read_token, read_each, read_all, read, place}
-use Rattle.og_grammar.proofs.KindSets.{sees_none, sees_apart, stops_left, stops_right}
-use Rattle.og_grammar.proofs.Starts.{Starts, starts, starts_each}
+use Rattle.og_grammar.specs.Lexeme.{Lexeme}
+use Rattle.og_grammar.specs.declared.terminal.Terminal.{Terminal}
+use Rattle.og_grammar.specs.Rule.{Nonterminals, Meaning, Rule, one, give, seq, alt, star, map, at, hole, spells, IsPlaceOf, IsToken, EachInTurn}
+use Rattle.og_grammar.specs.Reading.{Readers, apart, terminals_if, sees_any, nullable, first, more, fine, Outcome, and_then, with_value, read_token, read_each, read_all, read, place}
+use Rattle.og_grammar.proofs.TerminalSets.{sees_none, sees_apart, stops_left, stops_right}
+use Rattle.og_grammar.proofs.Starts.{Starts, Begins, starts, starts_each}
 
-pub token_again : (k : Kind) (test : Token → Bool) (xs rest : List Token) (t : Token) → IsToken k test xs t → read_token k test (xs ++ rest) ≡ Ok (t, rest)
+-- how many tokens are left behind the value, or at the fault
+abbrev pub tokens_left : {A : Type 0} → Outcome A → ℕ
+tokens_left (Ok v) = length v.1
+tokens_left (Err left) = left
+
+-- what is known of what each nonterminal's reader takes
+pub record IsWhole {N : Nonterminals} (m : Meaning N) (d : Readers N) : Type 0 where
+  pub takes : (n : N.Symbol) (xs rest : List Lexeme) (a : N.Value n) → m.spelled n xs a → sees_any (d.tables.more_terminals n) rest ≡ false → d.reader n (xs ++ rest) ≡ Ok (a, rest)
+  pub passing : (n : N.Symbol) (xs rest : List Lexeme) → m.begun n xs → tokens_left (d.reader n (xs ++ rest)) ≤ length rest
+  pub fewer : (n : N.Symbol) (ts : List Lexeme) → tokens_left (d.reader n ts) ≤ length ts
+
+pub token_again : (k : Terminal) (test : Lexeme → Bool) (xs rest : List Lexeme) (t : Lexeme) → IsToken k test xs t → read_token k test (xs ++ rest) ≡ Ok (t, rest)
 unfolding read_token
 token_again k test xs rest t p = rw (p.0, p.1, p.2) refl
 
-seq_again : {A B : Type 0} (r : Outcome A) (g : List Token → Outcome B) (a : A) (b : B) (mid rest : List Token) → r ≡ Ok (a, mid) → g mid ≡ Ok (b, rest)
+seq_again : {A B : Type 0} (r : Outcome A) (g : List Lexeme → Outcome B) (a : A) (b : B) (mid rest : List Lexeme) → r ≡ Ok (a, mid) → g mid ≡ Ok (b, rest)
     → and_then {B = A × B} r (λ x more. with_value (λ y. (x, y)) (g more)) ≡ Ok ((a, b), rest)
 seq_again r g a b mid rest p q = rw (p, q) refl
 
 -- What is spelled behind a part doesn't go on with it, nor what comes after both.
-after_part : (b : Bool) (mores firsts : List Kind) (ys rest : List Token) → apart mores firsts ≡ true → Starts b firsts ys → sees_any (kinds_if b mores) rest ≡ false → sees_any mores (ys ++ rest) ≡ false
+after_part : (b : Bool) (mores firsts : List Terminal) (ys rest : List Lexeme) → apart mores firsts ≡ true → Starts b firsts ys → sees_any (terminals_if b mores) rest ≡ false → sees_any mores (ys ++ rest) ≡ false
 after_part b mores firsts ys rest e (inl (p, q)) stop = let s = rw q at stop in rw p s
 after_part b mores firsts ys rest e (inr f) stop = sees_apart mores firsts (ys ++ rest) e (f rest)
 
 -- what can't be empty begins with a first kind
-pub begins : (b : Bool) (ks : List Kind) (xs rest : List Token) → b ≡ false → Starts b ks xs → sees_any ks (xs ++ rest) ≡ true
+pub begins : (b : Bool) (ks : List Terminal) (xs rest : List Lexeme) → b ≡ false → Starts b ks xs → sees_any ks (xs ++ rest) ≡ true
 begins b ks xs rest e (inl (p, q)) = cc
 begins b ks xs rest e (inr f) = f rest
 
-pub seen_length : (ks : List Kind) (ts : List Token) → sees_any ks ts ≡ true → 1 ≤ length ts
+pub seen_length : (ks : List Terminal) (ts : List Lexeme) → sees_any ks ts ≡ true → 1 ≤ length ts
 seen_length ks [] e = let none = sees_none ks in cc
 seen_length ks (t ∷ ts) e = omega arith
 
-each_again : {A : Type 0} (f : List Token → A → Type 0) (item : List Token → Outcome A) (b : Bool) (firsts mores : List Kind) → b ≡ false → apart mores firsts ≡ true
-    → ((xs : List Token) (a : A) → f xs a → Starts b firsts xs)
-    → ((xs rest : List Token) (a : A) → f xs a → sees_any mores rest ≡ false → item (xs ++ rest) ≡ Ok (a, rest))
-    → (vs : List A) (xs rest : List Token) (n : ℕ) → EachInTurn f xs vs → sees_any mores rest ≡ false → sees_any firsts rest ≡ false → length (xs ++ rest) ≤ n
+each_again : {A : Type 0} (f : List Lexeme → A → Type 0) (item : List Lexeme → Outcome A) (b : Bool) (firsts mores : List Terminal) → b ≡ false → apart mores firsts ≡ true
+    → ((xs : List Lexeme) (a : A) → f xs a → Starts b firsts xs)
+    → ((xs rest : List Lexeme) (a : A) → f xs a → sees_any mores rest ≡ false → item (xs ++ rest) ≡ Ok (a, rest))
+    → (vs : List A) (xs rest : List Lexeme) (n : ℕ) → EachInTurn f xs vs → sees_any mores rest ≡ false → sees_any firsts rest ≡ false → length (xs ++ rest) ≤ n
     → read_each firsts item n (xs ++ rest) ≡ Ok (vs, rest)
 unfolding read_each
 each_again f item b firsts mores e set begin again [] xs rest zero p s t le = rw p refl
@@ -68,38 +79,39 @@ pub at_fine : (a b : Bool) → (a && not b) ≡ true → (a ≡ true) × (b ≡ 
 at_fine a b e = let p = and_parts a (not b) e in (p.0, not-true b p.1)
 
 -- what begins with a token has its place
-same_place : (ks : List Kind) (xs rest : List Token) (n : ℕ) → sees_any ks (xs ++ []) ≡ true → IsPlaceOf xs n → place (xs ++ rest) ≡ n
+same_place : (ks : List Terminal) (xs rest : List Lexeme) (n : ℕ) → sees_any ks (xs ++ []) ≡ true → IsPlaceOf xs n → place (xs ++ rest) ≡ n
 unfolding place
 same_place ks [] rest n seen p = let none = sees_none ks in absurd (false≢true (sym none ∙ seen))
 same_place ks (t ∷ xs) rest n seen p = sym p
 
-pub complete : {A : Type 0} (f : Rule A) → fine f ≡ true → (xs rest : List Token) (a : A) → spells f xs a → sees_any (more f) rest ≡ false → read f (xs ++ rest) ≡ Ok (a, rest)
+pub complete : {N : Nonterminals} {A : Type 0} (m : Meaning N) (d : Readers N) (fb : Begins m d) (fw : IsWhole m d) (f : Rule N A) → fine d.tables f ≡ true → (xs rest : List Lexeme) (a : A) → spells m f xs a → sees_any (more d.tables f) rest ≡ false → read d f (xs ++ rest) ≡ Ok (a, rest)
 unfolding read_all
-complete (one k test) e xs rest a p s = token_again k test xs rest a p
-complete (give b) e xs rest a p s = rw (p.0, p.1) refl
-complete (seq f g) e xs rest a (ys, zs, cut, p, q) s =
-    let fines = seq_fine (fine f) (fine g) (apart (more f) (first g)) e in
-    let stop = stops_right (more g) (kinds_if (nullable g) (more f)) rest s in
-    let mid = after_part (nullable g) (more f) (first g) zs rest fines.2 (starts g zs a.1 q) stop in
-    let f_is = complete f fines.0 ys (zs ++ rest) a.0 p mid in
-    let g_is = complete g fines.1 zs rest a.1 q (stops_left (more g) (kinds_if (nullable g) (more f)) rest s) in
+complete m d fb fw (one k test) e xs rest a p s = token_again k test xs rest a p
+complete m d fb fw (give b) e xs rest a p s = rw (p.0, p.1) refl
+complete m d fb fw (seq f g) e xs rest a (ys, zs, cut, p, q) s =
+    let fines = seq_fine (fine d.tables f) (fine d.tables g) (apart (more d.tables f) (first d.tables g)) e in
+    let stop = stops_right (more d.tables g) (terminals_if (nullable g) (more d.tables f)) rest s in
+    let mid = after_part (nullable g) (more d.tables f) (first d.tables g) zs rest fines.2 (starts m d fb g zs a.1 q) stop in
+    let f_is = complete m d fb fw f fines.0 ys (zs ++ rest) a.0 p mid in
+    let g_is = complete m d fb fw g fines.1 zs rest a.1 q (stops_left (more d.tables g) (terminals_if (nullable g) (more d.tables f)) rest s) in
     let same : xs ++ rest ≡ ys ++ (zs ++ rest) = rw (cut, append_assoc ys zs rest) refl in
-    rw same (seq_again (read f (ys ++ (zs ++ rest))) (read g) a.0 a.1 (zs ++ rest) rest f_is g_is)
-complete (alt f g) e xs rest a (inl p) s =
-    let fines = alt_fine (fine f) (fine g) (nullable f) (apart (first f) (first g)) e in
-    let seen = begins (nullable f) (first f) xs rest fines.2 (starts f xs a p) in
-    rw seen (complete f fines.0 xs rest a p (stops_left (more f) (more g ++ kinds_if (nullable g) (first f)) rest s))
-complete (alt f g) e xs rest a (inr p) s =
-    let fines = alt_fine (fine f) (fine g) (nullable f) (apart (first f) (first g)) e in
-    let stop = stops_right (more f) (more g ++ kinds_if (nullable g) (first f)) rest s in
-    let unseen = after_part (nullable g) (first f) (first g) xs rest fines.3 (starts g xs a p) (stops_right (more g) (kinds_if (nullable g) (first f)) rest stop) in
-    rw unseen (complete g fines.1 xs rest a p (stops_left (more g) (kinds_if (nullable g) (first f)) rest stop))
-complete (star f) e xs rest a p s =
-    let fines = star_fine (fine f) (nullable f) (apart (more f) (first f)) e in
-    each_again (spells f) (read f) (nullable f) (first f) (more f) fines.1 fines.2 (λ ys b q. starts f ys b q) (λ ys after b q stop. complete f fines.0 ys after b q stop)
-    a xs rest (length (xs ++ rest)) p (stops_left (more f) (first f) rest s) (stops_right (more f) (first f) rest s) (omega arith)
-complete (map h f) e xs rest a (b, p, value) s = rw (complete f e xs rest b p s, value) refl
-complete (at f) e xs rest a (p, q) s =
-    let fines = at_fine (fine f) (nullable f) e in
-    let here = same_place (first f) xs rest a.0 (begins (nullable f) (first f) xs [] fines.1 (starts f xs a.1 q)) p in
-    rw (complete f fines.0 xs rest a.1 q s, here) refl
+    rw same (seq_again (read d f (ys ++ (zs ++ rest))) (read d g) a.0 a.1 (zs ++ rest) rest f_is g_is)
+complete m d fb fw (alt f g) e xs rest a (inl p) s =
+    let fines = alt_fine (fine d.tables f) (fine d.tables g) (nullable f) (apart (first d.tables f) (first d.tables g)) e in
+    let seen = begins (nullable f) (first d.tables f) xs rest fines.2 (starts m d fb f xs a p) in
+    rw seen (complete m d fb fw f fines.0 xs rest a p (stops_left (more d.tables f) (more d.tables g ++ terminals_if (nullable g) (first d.tables f)) rest s))
+complete m d fb fw (alt f g) e xs rest a (inr p) s =
+    let fines = alt_fine (fine d.tables f) (fine d.tables g) (nullable f) (apart (first d.tables f) (first d.tables g)) e in
+    let stop = stops_right (more d.tables f) (more d.tables g ++ terminals_if (nullable g) (first d.tables f)) rest s in
+    let unseen = after_part (nullable g) (first d.tables f) (first d.tables g) xs rest fines.3 (starts m d fb g xs a p) (stops_right (more d.tables g) (terminals_if (nullable g) (first d.tables f)) rest stop) in
+    rw unseen (complete m d fb fw g fines.1 xs rest a p (stops_left (more d.tables g) (terminals_if (nullable g) (first d.tables f)) rest stop))
+complete m d fb fw (star f) e xs rest a p s =
+    let fines = star_fine (fine d.tables f) (nullable f) (apart (more d.tables f) (first d.tables f)) e in
+    each_again (spells m f) (read d f) (nullable f) (first d.tables f) (more d.tables f) fines.1 fines.2 (λ ys b q. starts m d fb f ys b q) (λ ys after b q stop. complete m d fb fw f fines.0 ys after b q stop)
+    a xs rest (length (xs ++ rest)) p (stops_left (more d.tables f) (first d.tables f) rest s) (stops_right (more d.tables f) (first d.tables f) rest s) (omega arith)
+complete m d fb fw (map h f) e xs rest a (b, p, value) s = rw (complete m d fb fw f e xs rest b p s, value) refl
+complete m d fb fw (at f) e xs rest a (p, q) s =
+    let fines = at_fine (fine d.tables f) (nullable f) e in
+    let here = same_place (first d.tables f) xs rest a.0 (begins (nullable f) (first d.tables f) xs [] fines.1 (starts m d fb f xs a.1 q)) p in
+    rw (complete m d fb fw f fines.0 xs rest a.1 q s, here) refl
+complete m d fb fw (hole n) e xs rest a p s = fw.takes n xs rest a p s

@@ -1,10 +1,13 @@
+pub mod Alone
 pub mod Complete
-pub mod KindSets
-pub mod ReaderLoops
-pub mod SameKinds
+pub mod EveryDepth
+pub mod Levels
+pub mod Quotes
+pub mod Repeating
+pub mod SameTerminals
 pub mod Sound
-pub mod StarReading
 pub mod Starts
+pub mod TerminalSets
 pub mod TokensLeft
 pub mod Verdict
 pub mod Viable

@@ -1,5 +1,9 @@
-pub mod Rule
+pub mod Alone
 pub mod Combinators
-pub mod Reading
+pub mod Items
 pub mod Laws
+pub mod Levels
+pub mod Lexeme
+pub mod Reading
 pub mod Reads
+pub mod Rule

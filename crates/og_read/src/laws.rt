@@ -16,12 +16,19 @@ pub enum SmallGames {}
 impl Language for SmallGames {
     type Value = SmallGame;
 
+    ghost use Rattle.og_grammar.specs.Alone.{none, alone, alone_fine};
     ghost use Rattle.og_read.specs.Grammar.{game};
     ghost use Rattle.og_read.specs.laws.Fine.{game_fine};
 
+    ghost names = { none };
+
+    ghost grammar = { alone };
+
     ghost rule = { game };
 
-    ghost is_fine = { game_fine };
+    ghost is_fine = { alone_fine };
+
+    ghost is_led = { game_fine };
 }
 
 /// Names the language of strategies.
@@ -30,12 +37,19 @@ pub enum Strategies {}
 impl Language for Strategies {
     type Value = List<Section>;
 
+    ghost use Rattle.og_grammar.specs.Alone.{none, alone, alone_fine};
     ghost use Rattle.og_read.specs.Grammar.{strategy};
     ghost use Rattle.og_read.specs.laws.Fine.{strategy_fine};
 
+    ghost names = { none };
+
+    ghost grammar = { alone };
+
     ghost rule = { strategy };
 
-    ghost is_fine = { strategy_fine };
+    ghost is_fine = { alone_fine };
+
+    ghost is_led = { strategy_fine };
 }
 
 /// Tokens spell at most one small game.

@@ -1,115 +1,93 @@
 ghost use Rattle.og_grammar.specs.Reads.{Reads};
 ghost use Rattle.og_read.specs.Grammar as spec;
 
-use crate::lexemes::{name, names, number};
-use og_grammar::{Fault, Tokens};
-use og_lex::{Kind, Mark, Word};
+use crate::lexemes::{name, names};
+use og_grammar::{Fault, Terminal, Tokens, many, separated};
+use og_lex::{Mark, Word};
 use og_list::List;
 use og_small::{Key, Row};
 use std::alloc::Global;
 
 /// `NAME : NAME`
 #[tactic(auto, unfolding(crate::specs::Grammar::key))]
-fn key(alloc: Global, text: &[u8], tokens: &mut Tokens<'_>) -> Result<Key, Fault>
-    ensures { Reads (spec.key text.now) tokens.old result tokens.new }
+fn key(alloc: Global, tokens: &mut Tokens<'_>, _room: usize) -> Result<Key, Fault>
+    ensures { Reads spec.reads spec.key tokens.old result tokens.new }
 {
-    let output = name(alloc, text, tokens)?;
-    tokens.take(Kind::Mark(Mark::Colon))?;
-    let action = name(alloc, text, tokens)?;
+    let output = name(alloc, tokens, 0)?;
+    tokens.take(Terminal::Mark(Mark::Colon))?;
+    let action = name(alloc, tokens, 0)?;
     Ok(Key { output, action })
-}
-
-/// `, NAME : NAME`
-#[tactic(auto, unfolding(crate::specs::Grammar::next_key))]
-fn next_key(alloc: Global, text: &[u8], tokens: &mut Tokens<'_>) -> Result<Key, Fault>
-    ensures { Reads (spec.next_key text.now) tokens.old result tokens.new }
-{
-    tokens.take(Kind::Mark(Mark::Comma))?;
-    key(alloc, text, tokens)
 }
 
 /// One or more keys, with commas between.
 #[tactic(auto, unfolding(crate::specs::Grammar::keys))]
-fn keys(alloc: Global, text: &[u8], tokens: &mut Tokens<'_>) -> Result<List<Key>, Fault>
-    ensures { Reads (spec.keys text.now) tokens.old result tokens.new }
+fn keys(alloc: Global, tokens: &mut Tokens<'_>) -> Result<List<Key>, Fault>
+    ensures { Reads spec.reads spec.keys tokens.old result tokens.new }
 {
-    let mut keys = List::new(alloc);
-    keys.add(key(alloc, text, tokens)?)?;
-    'keys: while tokens.sees(Kind::Mark(Mark::Comma)) {
-        keys.add(next_key(alloc, text, tokens)?)?;
-    }
-    Ok(keys)
+    separated(alloc, tokens, 0, Terminal::Mark(Mark::Comma), key)
 }
 
 /// Keys in parentheses.
 #[tactic(auto, unfolding(crate::specs::Grammar::columns))]
-fn columns(alloc: Global, text: &[u8], tokens: &mut Tokens<'_>) -> Result<List<Key>, Fault>
-    ensures { Reads (spec.columns text.now) tokens.old result tokens.new }
+fn columns(alloc: Global, tokens: &mut Tokens<'_>) -> Result<List<Key>, Fault>
+    ensures { Reads spec.reads spec.columns tokens.old result tokens.new }
 {
-    tokens.take(Kind::Mark(Mark::LeftParen))?;
-    let keys = keys(alloc, text, tokens)?;
-    tokens.take(Kind::Mark(Mark::RightParen))?;
+    tokens.take(Terminal::Mark(Mark::LeftParen))?;
+    let keys = keys(alloc, tokens)?;
+    tokens.take(Terminal::Mark(Mark::RightParen))?;
     Ok(keys)
 }
 
 /// Names in parentheses.
 #[tactic(auto, unfolding(crate::specs::Grammar::outcome))]
-fn outcome(alloc: Global, text: &[u8], tokens: &mut Tokens<'_>) -> Result<List<List<u8>>, Fault>
-    ensures { Reads (spec.outcome text.now) tokens.old result tokens.new }
+fn outcome(alloc: Global, tokens: &mut Tokens<'_>) -> Result<List<List<u8>>, Fault>
+    ensures { Reads spec.reads spec.outcome tokens.old result tokens.new }
 {
-    tokens.take(Kind::Mark(Mark::LeftParen))?;
-    let cases = names(alloc, text, tokens)?;
-    tokens.take(Kind::Mark(Mark::RightParen))?;
+    tokens.take(Terminal::Mark(Mark::LeftParen))?;
+    let cases = names(alloc, tokens)?;
+    tokens.take(Terminal::Mark(Mark::RightParen))?;
     Ok(cases)
 }
 
 /// `(NAME, ..) -> NUMBER;`
 #[tactic(auto, unfolding(crate::specs::Grammar::row))]
-fn row(alloc: Global, text: &[u8], tokens: &mut Tokens<'_>) -> Result<Row, Fault>
-    ensures { Reads (spec.row text.now) tokens.old result tokens.new }
+fn row(alloc: Global, tokens: &mut Tokens<'_>, _room: usize) -> Result<Row, Fault>
+    ensures { Reads spec.reads spec.row tokens.old result tokens.new }
 {
-    let cases = outcome(alloc, text, tokens)?;
-    tokens.take(Kind::Mark(Mark::Arrow))?;
-    let pay = number(tokens)?;
-    tokens.take(Kind::Mark(Mark::Semicolon))?;
+    let cases = outcome(alloc, tokens)?;
+    tokens.take(Terminal::Mark(Mark::Arrow))?;
+    let pay = tokens.number()?;
+    tokens.take(Terminal::Mark(Mark::Semicolon))?;
     Ok(Row { cases, pay })
 }
 
 /// Rows, as many as there are.
-#[tactic(auto, unfolding(crate::specs::Grammar::rows))]
-fn rows(alloc: Global, text: &[u8], tokens: &mut Tokens<'_>) -> Result<List<Row>, Fault>
-    ensures { Reads (spec.rows text.now) tokens.old result tokens.new }
+#[tactic(auto, unfolding(crate::specs::Grammar::rows, crate::specs::Grammar::row, crate::specs::Grammar::outcome))]
+fn rows(alloc: Global, tokens: &mut Tokens<'_>) -> Result<List<Row>, Fault>
+    ensures { Reads spec.reads spec.rows tokens.old result tokens.new }
 {
-    let mut rows = List::new(alloc);
-    'rows: while tokens.sees(Kind::Mark(Mark::LeftParen)) {
-        rows.add(row(alloc, text, tokens)?)?;
-    }
-    Ok(rows)
+    many(alloc, tokens, 0, &[Terminal::Mark(Mark::LeftParen)], row)
 }
 
 /// Rows in braces.
 #[tactic(auto, unfolding(crate::specs::Grammar::rows_inside))]
-fn rows_inside(alloc: Global, text: &[u8], tokens: &mut Tokens<'_>) -> Result<List<Row>, Fault>
-    ensures { Reads (spec.rows_inside text.now) tokens.old result tokens.new }
+fn rows_inside(alloc: Global, tokens: &mut Tokens<'_>) -> Result<List<Row>, Fault>
+    ensures { Reads spec.reads spec.rows_inside tokens.old result tokens.new }
 {
-    tokens.take(Kind::Mark(Mark::LeftBrace))?;
-    let rows = rows(alloc, text, tokens)?;
-    tokens.take(Kind::Mark(Mark::RightBrace))?;
+    tokens.take(Terminal::Mark(Mark::LeftBrace))?;
+    let rows = rows(alloc, tokens)?;
+    tokens.take(Terminal::Mark(Mark::RightBrace))?;
     Ok(rows)
 }
 
 /// `table (KEY, ..) { ROW .. };`
 #[tactic(auto, unfolding(crate::specs::Grammar::table))]
-pub(crate) fn table(
-    alloc: Global,
-    text: &[u8],
-    tokens: &mut Tokens<'_>,
-) -> Result<(List<Key>, List<Row>), Fault>
-    ensures { Reads (spec.table text.now) tokens.old result tokens.new }
+pub(crate) fn table(alloc: Global, tokens: &mut Tokens<'_>) -> Result<(List<Key>, List<Row>), Fault>
+    ensures { Reads spec.reads spec.table tokens.old result tokens.new }
 {
-    tokens.take(Kind::Word(Word::Table))?;
-    let keys = columns(alloc, text, tokens)?;
-    let rows = rows_inside(alloc, text, tokens)?;
-    tokens.take(Kind::Mark(Mark::Semicolon))?;
+    tokens.take(Terminal::Word(Word::Table))?;
+    let keys = columns(alloc, tokens)?;
+    let rows = rows_inside(alloc, tokens)?;
+    tokens.take(Terminal::Mark(Mark::Semicolon))?;
     Ok((keys, rows))
 }

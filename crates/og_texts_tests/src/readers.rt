@@ -1,7 +1,10 @@
+ghost use Rattle.std.specs.Prelude.{All};
+ghost use Rattle.og_lex.specs.Spelling.{IsTokenOf};
+
 use crate::told::{check_told, tell};
 use og_grammar::{
-    exact_reading, same_kinds, single_value, single_verdict, sound_reading, viable_fronts,
-    whole_reading,
+    exact_reading, nonterminals, same_terminals, single_value, single_verdict, sound_reading,
+    viable_fronts, whole_reading,
 };
 use og_lex::{MAX_TEXT, Token, lex};
 use og_list::List;
@@ -100,7 +103,9 @@ fn tell_section(rt: &impl Abort, told: &mut String, section: &Section) {
     tell(rt, told, "\n");
 }
 
-fn tokens_of(rt: &impl Abort, alloc: Global, text: &str) -> List<Token> {
+pub fn tokens_of(rt: &impl Abort, alloc: Global, text: &str) -> List<Token>
+    ensures { All (IsTokenOf text.now) result }
+{
     assert!(rt; text.len() <= MAX_TEXT);
     lex(alloc, text).ok().expect(rt, "tokens")
 }
@@ -108,7 +113,7 @@ fn tokens_of(rt: &impl Abort, alloc: Global, text: &str) -> List<Token> {
 /// Adds the game that the text is read as, or `none`.
 fn tell_read_game(rt: &impl Abort, alloc: Global, text: &str, told: &mut String) {
     let tokens = tokens_of(rt, alloc, text);
-    let read = read_game(alloc, text.as_bytes(), tokens.as_slice());
+    let read = read_game(alloc, text, tokens.as_slice());
     match read.expect(rt, "memory") {
         Some(game) => tell_game(rt, alloc, told, &game),
         None => tell(rt, told, "none"),
@@ -118,7 +123,7 @@ fn tell_read_game(rt: &impl Abort, alloc: Global, text: &str, told: &mut String)
 /// Adds the strategy that the text is read as, or `none`.
 fn tell_read_strategy(rt: &impl Abort, alloc: Global, text: &str, told: &mut String) {
     let tokens = tokens_of(rt, alloc, text);
-    let read = read_strategy(alloc, text.as_bytes(), tokens.as_slice());
+    let read = read_strategy(alloc, text, tokens.as_slice());
     match read.expect(rt, "memory") {
         Some(sections) => {
             for section in sections.as_slice() {
@@ -183,7 +188,8 @@ fn strategies(rt: HostRuntime) {
 
 #[test]
 fn laws() {
-    same_kinds();
+    same_terminals();
+    nonterminals::<SmallGames>();
     sound_reading::<SmallGames>();
     whole_reading::<SmallGames>();
     single_value::<SmallGames>();

@@ -1,5 +1,5 @@
 -- Which texts are small games and small strategies.
-use Rattle.std.specs.Prelude.{◌≡◌, ℕ, ◌≤◌, nat_lt, Bool, true, ◌&&◌, Option, MatchOption, List, [], ◌∷◌, length, drop, slice_range}
+use Rattle.std.specs.Prelude.{◌≡◌, ℕ, ◌≤◌, nat_lt, Bool, true, ◌&&◌, Option, MatchOption, IfSome, All, List, [], ◌∷◌, length, drop, slice_range}
 use Rattle.std.specs.List.{list_all}
 use Rattle.og_lex.specs.declared.token.Token.{Token}
 use Rattle.og_lex.specs.Characters.{is_blank}
@@ -41,6 +41,10 @@ pub record IsStrategy (text : List ℕ) (sections : List Section) : Type 0 where
   pub tokens : List Token
   pub plain : IsPlain text tokens
   pub spelled : SpellsStrategy text tokens sections
+
+-- what is found, each of which has the property
+abbrev pub IfEach : {A : Type 0} → (A → Type 0) → Option (List A) → Type 0
+IfEach holds found = IfSome found (All holds)
 
 -- A reader answers the tokens of a plain text, the small game or the sections of the text, or that
 -- there are none.

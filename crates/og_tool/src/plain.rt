@@ -2,8 +2,8 @@ ghost use Rattle.std.specs.Prelude.{◌≡◌, ◌≤◌, ◌<◌, List, ℕ, le
 ghost use Rattle.std.specs.List.{list_all};
 ghost use Rattle.og_lex.specs.declared.token.Token.{Token};
 ghost use Rattle.og_lex.specs.Characters.{is_blank};
-ghost use Rattle.og_lex.specs.Spelling.{AreInOrder};
-ghost use Rattle.og_tool.specs.Texts.{longest_text, are_gaps_blank, is_ascii, IsPlain, ReadsPlain};
+ghost use Rattle.og_lex.specs.Spelling.{AreInOrder, IsTokenOf};
+ghost use Rattle.og_tool.specs.Texts.{longest_text, are_gaps_blank, is_ascii, IfEach, IsPlain, ReadsPlain};
 
 use og_lex::{LexFault, MAX_TEXT, Token, lex, one_lexing};
 use og_list::List;
@@ -50,7 +50,7 @@ fn are_gaps_blank(text: &[u8], tokens: &[Token]) -> bool
 }
 
 /// The text of ASCII bytes, or None where a byte isn't ASCII or there are too many.
-fn ascii_text(bytes: &[u8]) -> Option<&str>
+pub(crate) fn ascii_text(bytes: &[u8]) -> Option<&str>
     ensures some { IfSome result (λ text. (text.now ≡ bytes.now)
         × (length bytes.now ≤ longest_text) × (is_ascii bytes.now ≡ true)) }
     ensures none { IfNone result ((length bytes.now ≤ longest_text) → is_ascii bytes.now ≡ false) }
@@ -64,17 +64,17 @@ fn ascii_text(bytes: &[u8]) -> Option<&str>
     }
 }
 
-/// The tokens of the text, if it is plain: not too long, of ASCII, and with no comment.
-pub(crate) fn plain_tokens(alloc: Global, bytes: &[u8]) -> Result<Option<List<Token>>, AllocError>
-    ensures { IfOk result (ReadsPlain bytes.now) }
+/// The tokens of the text, if it is plain: with no comment.
+pub(crate) fn plain_tokens(alloc: Global, text: &str) -> Result<Option<List<Token>>, AllocError>
+    requires short { length text.now ≤ longest_text }
+    requires ascii { is_ascii text.now ≡ true }
+    ensures read { IfOk result (ReadsPlain text.now) }
+    ensures each { IfOk result (IfEach (IsTokenOf text.now)) }
 {
     one_lexing();
-    let Some(text) = ascii_text(bytes) else {
-        return Ok(None);
-    };
     match lex(alloc, text) {
         Ok(tokens) => {
-            let is_plain = are_gaps_blank(bytes, tokens.as_slice());
+            let is_plain = are_gaps_blank(text.as_bytes(), tokens.as_slice());
             if is_plain { Ok(Some(tokens)) } else { Ok(None) }
         }
         Err(fault) => match fault {

@@ -3,7 +3,7 @@ ghost use Rattle.og_small.specs.declared.tree.SmallGame.{SmallGame};
 ghost use Rattle.og_small.specs.declared.tree.Section.{Section};
 ghost use Rattle.og_tool.specs.Texts.{IsGame, IsStrategy, ReadsGame, ReadsStrategy};
 
-use crate::plain::plain_tokens;
+use crate::plain::{ascii_text, plain_tokens};
 use og_lex::one_lexing;
 use og_list::List;
 use og_read::{one_game, one_strategy, read_game, read_strategy};
@@ -11,11 +11,14 @@ use og_small::{Section, SmallGame, accepts};
 use std::alloc::{AllocError, Global};
 
 /// The small game that the text spells, if it spells one that is accepted.
-pub(crate) fn game_of(alloc: Global, text: &[u8]) -> Result<Option<SmallGame>, AllocError>
-    ensures { IfOk result (ReadsGame text.now) }
+pub(crate) fn game_of(alloc: Global, bytes: &[u8]) -> Result<Option<SmallGame>, AllocError>
+    ensures { IfOk result (ReadsGame bytes.now) }
 {
     one_game();
     one_lexing();
+    let Some(text) = ascii_text(bytes) else {
+        return Ok(None);
+    };
     let Some(tokens) = plain_tokens(alloc, text)? else {
         return Ok(None);
     };
@@ -33,10 +36,13 @@ pub(crate) fn game_of(alloc: Global, text: &[u8]) -> Result<Option<SmallGame>, A
 }
 
 /// The sections of the small strategy that the text spells, if it spells some.
-pub(crate) fn strategy_of(alloc: Global, text: &[u8]) -> Result<Option<List<Section>>, AllocError>
-    ensures { IfOk result (ReadsStrategy text.now) }
+pub(crate) fn strategy_of(alloc: Global, bytes: &[u8]) -> Result<Option<List<Section>>, AllocError>
+    ensures { IfOk result (ReadsStrategy bytes.now) }
 {
     one_lexing();
+    let Some(text) = ascii_text(bytes) else {
+        return Ok(None);
+    };
     let Some(tokens) = plain_tokens(alloc, text)? else {
         return Ok(None);
     };

@@ -1,4 +1,5 @@
-use Rattle.og_grammar.proofs.Whole.{spelled_to_end, unspelled_fault, unspelled_rest}
+use Rattle.og_grammar.proofs.Alone.{spelled_to_end, unspelled_fault, unspelled_rest}
+use Rattle.og_grammar.specs.Lexeme.{lexemes_of}
 use Rattle.og_read.specs.Grammar.{game}
 use Rattle.og_read.specs.laws.Fine.{game_fine}
 use Rattle.og_read.proofs.games.read_game.Goals as goal
@@ -6,13 +7,13 @@ use Rattle.og_read.proofs.games.read_game.Goals as goal
 pub returns-then-is_done : goal.returns-then-is_done
 returns-then-is_done c =
     let done = c.is_done.ensures.0 c.if-is_done.true in
-    spelled_to_end (game c.args.text.now) c.args.tokens.now c.in-Ok.game (rw (c.new-rest.ensures, done) at c.in-Ok.ensures)
+    spelled_to_end 0 game (lexemes_of c.args.text.now c.args.tokens.now) c.in-Ok.game (rw (c.new-rest.ensures, done) at c.in-Ok.ensures)
 
 pub returns-else-is_done : goal.returns-else-is_done
 returns-else-is_done c =
-    unspelled_rest (game c.args.text.now) (game_fine c.args.text.now) c.args.tokens.now c.game.new.tokens c.in-Ok.game (rw c.new-rest.ensures at c.in-Ok.ensures)
+    unspelled_rest 0 game game_fine (lexemes_of c.args.text.now c.args.tokens.now) c.game.new.tokens c.in-Ok.game (rw c.new-rest.ensures at c.in-Ok.ensures)
     (λ none. let done = c.is_done.ensures.1 none in let left = c.if-is_done.false in cc)
 
 pub returns-in-Err-Syntax : goal.returns-in-Err-Syntax
 returns-in-Err-Syntax c =
-    unspelled_fault (game c.args.text.now) (game_fine c.args.text.now) c.args.tokens.now _ (rw (c.in-Err-Syntax.field-0-is, c.new-rest.ensures) at c.in-Err-Syntax.ensures)
+    unspelled_fault 0 game game_fine (lexemes_of c.args.text.now c.args.tokens.now) _ (rw (c.in-Err-Syntax.field-0-is, c.new-rest.ensures) at c.in-Err-Syntax.ensures)
