@@ -9,3 +9,5 @@ mod small_games;
 mod tokens;
 #[cfg(test)]
 mod told;
+#[cfg(test)]
+mod trees;

@@ -1,0 +1,9 @@
+use Rattle.std.proofs.Common.{rules}
+use Rattle.og_grammar.specs.Reading.{read}
+use Rattle.og_language.specs.Language.{in_room}
+use Rattle.og_language.specs.Grammar.{conjunctions, conjunction}
+use Rattle.og_terms.proofs.inner.Inner.conjunctions.Goals as goal
+
+pub returns : goal.returns
+unfolding conjunctions
+returns g c = c.separated.ensures (read (in_room c.args.self.now.room) conjunction) (λ alloc old new r is. search rules)
