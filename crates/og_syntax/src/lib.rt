@@ -13,6 +13,7 @@ mod strategies;
 mod types;
 mod values;
 
+pub use boxes::new_box;
 pub use declarations::{Decl, GameParam, ParamKind, Program};
 pub use depth::first_deep;
 pub use expressions::{CompareOp, ExprTree, IfArm, ProductPart, ResultTree, SumPart, TableRow};
