@@ -46,7 +46,7 @@ use Rattle.og_syntax.specs.declared.declarations.ParamKind.{ParamKind}
 use Rattle.og_syntax.specs.declared.declarations.ParamKind.TheVariants as kinds
 use Rattle.og_syntax.specs.declared.strategies.Section.{Section}
 use Rattle.og_language.specs.Symbols.{symbols, type_of_values, value, expression, game}
-use Rattle.og_language.specs.Trees.{signed, one_or, compare_of, sum_of, product_of, negated, field_of, named_of, entry_of, seq_onto, par_onto, or_empty}
+use Rattle.og_language.specs.Trees.{signed, one_or, grouped, compare_of, sum_of, product_of, negated, field_of, named_of, entry_of, seq_onto, par_onto, or_empty}
 
 -- a rule of this language
 abbrev pub Spells : Type 0 → Type 1
@@ -196,7 +196,7 @@ some_exprs = commas expr
 
 -- "(" some_exprs ")", a tuple where there are two or more
 unfoldable pub group : Spells ExprTree
-group = map (λ v. one_or (exprs.Tuple v.0) v.1) (seq (mark m.LeftParen) (before some_exprs (mark m.RightParen)))
+group = map (λ v. grouped v.0 v.1) (seq (mark m.LeftParen) (before some_exprs (mark m.RightParen)))
 
 -- expr "then" expr
 unfoldable pub arm : Spells (IfArm ExprTree)
@@ -308,7 +308,7 @@ path = star component
 
 -- primary path
 unfoldable pub field : Spells ExprTree
-field = map (λ v. field_of v.0 v.1.0 v.1.1) (at (seq primary path))
+field = map (λ v. field_of v.0 v.1) (seq primary path)
 
 -- "-" ( Number | field )
 unfoldable pub negation : Spells ExprTree
@@ -329,7 +329,7 @@ product_parts = star product_part
 
 -- unary product_parts
 unfoldable pub product : Spells ExprTree
-product = map (λ v. product_of v.0 v.1.0 v.1.1) (at (seq unary product_parts))
+product = map (λ v. product_of v.0 v.1) (seq unary product_parts)
 
 -- "+" product | "-" product
 unfoldable pub sum_part : Spells (SumPart ExprTree)
@@ -342,7 +342,7 @@ sum_parts = star sum_part
 
 -- product sum_parts
 unfoldable pub sum : Spells ExprTree
-sum = map (λ v. sum_of v.0 v.1.0 v.1.1) (at (seq product sum_parts))
+sum = map (λ v. sum_of v.0 v.1) (seq product sum_parts)
 
 -- "==" | "!=" | "<" | "<=" | ">" | ">="
 unfoldable pub comparison_mark : Spells CompareOp
@@ -359,7 +359,7 @@ compared = seq comparison_mark sum
 
 -- sum [ compared ]
 unfoldable pub comparison : Spells ExprTree
-comparison = map (λ v. compare_of v.0 v.1.0 v.1.1) (at (seq sum (opt compared)))
+comparison = map (λ v. compare_of v.0 v.1) (seq sum (opt compared))
 
 -- [ "not" ] comparison
 unfoldable pub inversion : Spells ExprTree
@@ -370,14 +370,14 @@ unfoldable pub inversions : Spells (List ExprTree)
 inversions = separated (terminals.Word w.And) inversion
 
 unfoldable pub conjunction : Spells ExprTree
-conjunction = map (λ v. one_or (exprs.And v.0) v.1) (at inversions)
+conjunction = map (one_or exprs.And) inversions
 
 -- conjunction { "or" conjunction }
 unfoldable pub conjunctions : Spells (List ExprTree)
 conjunctions = separated (terminals.Word w.Or) conjunction
 
 unfoldable pub expression_rule : Spells ExprTree
-expression_rule = map (λ v. one_or (exprs.Or v.0) v.1) (at conjunctions)
+expression_rule = map (one_or exprs.Or) conjunctions
 
 -- ---- games: where the flag is true, branches may stand in them
 

@@ -1,8 +1,11 @@
 -- What the rules make of the parts that they read, where that isn't one form of a tree.
-use Rattle.std.specs.Prelude.{ℕ, ℤ, pos, ◌-ℤ◌, List, [], ◌∷◌, Option, Some, None, ◌⊎◌}
+use Rattle.std.specs.Prelude.{ℕ, ℤ, pos, ◌-ℤ◌, List, [], ◌∷◌, ◌++◌, Option, Some, None, ◌⊎◌}
 use Rattle.std.proofs.Common.{inl, inr}
 use Rattle.og_syntax.specs.declared.expressions.ExprTree.{ExprTree}
 use Rattle.og_syntax.specs.declared.expressions.ExprTree.TheVariants as exprs
+use Rattle.og_syntax.specs.declared.expressions.ExprTree.TheOpen as one
+use Rattle.og_syntax.specs.declared.expressions.ExprTree.TheViews.{out-ExprTree}
+use Rattle.og_syntax.specs.Places.{expr_place}
 use Rattle.og_syntax.specs.declared.expressions.CompareOp.{CompareOp}
 use Rattle.og_syntax.specs.declared.expressions.SumPart.{SumPart}
 use Rattle.og_syntax.specs.declared.expressions.ProductPart.{ProductPart}
@@ -19,33 +22,46 @@ abbrev pub signed : {A : Type 0} → Option A → ℕ → ℤ
 signed None n = pos n
 signed (Some minus) n = negative n
 
--- ---- expressions
+-- ---- expressions: a chain begins where its first part does, and with no further part it is that part
 
--- the only one, or what is made of several
-abbrev pub one_or : (List ExprTree → ExprTree) → List ExprTree → ExprTree
+-- the only one, or what is made of several and of the place of the first
+abbrev pub one_or : (ℕ → List ExprTree → ExprTree) → List ExprTree → ExprTree
+one_or all [] = all 0 []
 one_or all (e ∷ []) = e
-one_or all es = all es
+one_or all (e ∷ f ∷ es) = all (expr_place e) (e ∷ f ∷ es)
 
-abbrev pub compare_of : ℕ → ExprTree → Option (CompareOp × ExprTree) → ExprTree
-compare_of at left None = left
-compare_of at left (Some more) = exprs.Compare at more.0 left more.1
+-- brackets round one expression leave no node; those round several make a tuple
+abbrev pub grouped : ℕ → List ExprTree → ExprTree
+grouped at = one_or (λ first es. exprs.Tuple at es)
 
-abbrev pub sum_of : ℕ → ExprTree → List (SumPart ExprTree) → ExprTree
-sum_of at first [] = first
-sum_of at first (e ∷ es) = exprs.Sum at first (e ∷ es)
+abbrev pub compare_of : ExprTree → Option (CompareOp × ExprTree) → ExprTree
+compare_of left None = left
+compare_of left (Some more) = exprs.Compare (expr_place left) more.0 left more.1
 
-abbrev pub product_of : ℕ → ExprTree → List (ProductPart ExprTree) → ExprTree
-product_of at first [] = first
-product_of at first (e ∷ es) = exprs.Product at first (e ∷ es)
+abbrev pub sum_of : ExprTree → List (SumPart ExprTree) → ExprTree
+sum_of first [] = first
+sum_of first (e ∷ es) = exprs.Sum (expr_place first) first (e ∷ es)
+
+abbrev pub product_of : ExprTree → List (ProductPart ExprTree) → ExprTree
+product_of first [] = first
+product_of first (e ∷ es) = exprs.Product (expr_place first) first (e ∷ es)
 
 -- behind a minus: a number is one literal with it
 abbrev pub negated : ℕ → ℕ ⊎ ExprTree → ExprTree
 negated at (inl n) = exprs.Number at (negative n)
 negated at (inr e) = exprs.Neg at e
 
-abbrev pub field_of : ℕ → ExprTree → List ℕ → ExprTree
-field_of at part [] = part
-field_of at part (k ∷ ks) = exprs.Field at part (k ∷ ks)
+-- the components of an expression that may itself be components of another, which then are one chain
+abbrev pub components_of : ExprTree → List ℕ → ExprTree
+components_of part ks =
+    elim (out-ExprTree part) [
+      | one.Field at whole taken ↦ exprs.Field at whole (taken ++ ks)
+      | _ ↦ exprs.Field (expr_place part) part ks
+    ]
+
+abbrev pub field_of : ExprTree → List ℕ → ExprTree
+field_of part [] = part
+field_of part (k ∷ ks) = components_of part (k ∷ ks)
 
 abbrev pub named_of : ℕ → List ℕ → Option (List ExprTree) → ExprTree
 named_of at name None = exprs.Name at name

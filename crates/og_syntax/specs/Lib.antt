@@ -1,3 +1,4 @@
+pub mod Places
 pub mod Unplaced
 pub mod Deep
 pub mod Counts

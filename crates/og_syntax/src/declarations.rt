@@ -7,7 +7,7 @@ use og_list::{List, Text};
 use std::alloc::{AllocError, Global};
 
 /// A program: its declarations, in order.
-#[derive(Debug, Drop)]
+#[derive(Drop)]
 pub struct Program {
     /// The length of the text.
     pub at: u32,
@@ -18,7 +18,7 @@ pub struct Program {
 }
 
 /// A declaration.
-#[derive(Debug, Drop)]
+#[derive(Drop)]
 pub enum Decl {
     /// A type by its cases.
     Enum {
@@ -65,7 +65,7 @@ pub enum Decl {
 }
 
 /// A parameter of a game.
-#[derive(Debug, Drop)]
+#[derive(Drop)]
 pub struct GameParam {
     /// The place of the parameter.
     pub at: u32,
@@ -76,7 +76,7 @@ pub struct GameParam {
 }
 
 /// What a parameter of a game stands for.
-#[derive(Debug, Drop)]
+#[derive(Drop)]
 pub enum ParamKind {
     /// An agent's name.
     Agent,

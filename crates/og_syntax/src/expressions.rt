@@ -1,4 +1,5 @@
 ghost use Rattle.std.specs.Prelude.{◌≡◌, IfOk};
+ghost use Rattle.og_syntax.specs.Places.{expr_place};
 
 use crate::boxes::new_box;
 use crate::types::TyTree;
@@ -11,7 +12,7 @@ use std::alloc::{AllocError, Global};
 ///
 /// The types of its parts, as `SumPart`, are over any type of expressions: a definition by recursion on
 /// expressions has in their place what it gives of each.
-#[derive(Debug, Drop)]
+#[derive(Drop)]
 pub enum ExprTree {
     /// A whole number, also one behind a minus: the place of its first token, and the number.
     Number(u32, i64),
@@ -142,7 +143,7 @@ pub enum CompareOp {
 }
 
 /// A further part of a chain of `+` and `-`.
-#[derive(Debug, Drop)]
+#[derive(Drop)]
 pub enum SumPart<E = ExprTree> {
     /// A part behind `+`.
     Plus(E),
@@ -151,7 +152,7 @@ pub enum SumPart<E = ExprTree> {
 }
 
 /// A further part of a chain of `*` and `/`.
-#[derive(Debug, Drop)]
+#[derive(Drop)]
 pub enum ProductPart<E = ExprTree> {
     /// A part behind `*`.
     Times(E),
@@ -160,7 +161,7 @@ pub enum ProductPart<E = ExprTree> {
 }
 
 /// A condition with what holds under it.
-#[derive(Debug, Drop)]
+#[derive(Drop)]
 pub struct IfArm<E = ExprTree> {
     /// The condition.
     pub cond: E,
@@ -169,7 +170,7 @@ pub struct IfArm<E = ExprTree> {
 }
 
 /// A row of a table.
-#[derive(Debug, Drop)]
+#[derive(Drop)]
 pub struct TableRow<E = ExprTree> {
     /// The place of `(`.
     pub at: u32,
@@ -180,7 +181,7 @@ pub struct TableRow<E = ExprTree> {
 }
 
 /// An expression with the type that is written behind it.
-#[derive(Debug, Drop)]
+#[derive(Drop)]
 pub struct ResultTree<E = ExprTree> {
     /// The expression.
     pub expr: E,
@@ -189,6 +190,33 @@ pub struct ResultTree<E = ExprTree> {
 }
 
 impl ExprTree {
+    /// The place where the expression begins, without the brackets round it that leave no node.
+    pub fn at(&self) -> u32
+        ensures { result ≡ expr_place self.now }
+    {
+        match self {
+            ExprTree::Number(at, _)
+            | ExprTree::Flag(at, _)
+            | ExprTree::Name(at, _)
+            | ExprTree::Or(at, _)
+            | ExprTree::And(at, _)
+            | ExprTree::Not(at, _)
+            | ExprTree::Neg(at, _)
+            | ExprTree::Tuple(at, _)
+            | ExprTree::Min(at, _, _)
+            | ExprTree::Max(at, _, _)
+            | ExprTree::Call { at, .. }
+            | ExprTree::Compare { at, .. }
+            | ExprTree::Sum { at, .. }
+            | ExprTree::Product { at, .. }
+            | ExprTree::Field { at, .. }
+            | ExprTree::If { at, .. }
+            | ExprTree::Table { at, .. }
+            | ExprTree::Ratio { at, .. }
+            | ExprTree::Clamp { at, .. } => *at,
+        }
+    }
+
     /// An equal expression, in memory of its own.
     #[cycle(expression_copies)]
     pub fn copy(&self, alloc: Global) -> Result<ExprTree, AllocError>

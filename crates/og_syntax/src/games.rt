@@ -8,7 +8,7 @@ use og_list::{Boxed, List, Text};
 use std::alloc::{AllocError, Global};
 
 /// Who decides.
-#[derive(Debug, Drop)]
+#[derive(Drop)]
 pub enum AgentTree {
     /// An agent's name in quotes: the place of the first quote, and what stands between the quotes.
     Quoted(u32, Text),
@@ -17,7 +17,7 @@ pub enum AgentTree {
 }
 
 /// An argument of a game.
-#[derive(Debug, Drop)]
+#[derive(Drop)]
 pub enum ArgTree {
     /// An agent's name in quotes: the place of the first quote, and what stands between the quotes.
     Quoted(u32, Text),
@@ -32,7 +32,7 @@ pub enum ArgTree {
 ///
 /// The types of its parts, as `LineTree`, are over any type of games: a definition by recursion on games has
 /// in their place what it gives of each.
-#[derive(Debug, Drop)]
+#[derive(Drop)]
 pub enum GameTree {
     /// A declared game.
     Call {
@@ -124,7 +124,7 @@ pub enum GameTree {
 }
 
 /// The actions that are allowed at each observation of a decision.
-#[derive(Debug, Drop)]
+#[derive(Drop)]
 pub struct Among {
     /// The place of `among`.
     pub at: u32,
@@ -133,7 +133,7 @@ pub struct Among {
 }
 
 /// The actions that are allowed at one observation.
-#[derive(Debug, Drop)]
+#[derive(Drop)]
 pub struct AmongTree {
     /// The place of `(`.
     pub at: u32,
@@ -144,7 +144,7 @@ pub struct AmongTree {
 }
 
 /// The game of a branch at one value.
-#[derive(Debug, Drop)]
+#[derive(Drop)]
 pub struct ArmTree<G = GameTree> {
     /// The place of `(`.
     pub at: u32,
@@ -155,7 +155,7 @@ pub struct ArmTree<G = GameTree> {
 }
 
 /// A block: the wires at its border, and its lines. A field that isn't written is empty.
-#[derive(Debug, Drop)]
+#[derive(Drop)]
 pub struct BlockTree<G = GameTree> {
     /// The wires that come in at the front.
     pub inputs: List<ParamTree>,
@@ -170,7 +170,7 @@ pub struct BlockTree<G = GameTree> {
 }
 
 /// A line of a block. A field that isn't written is empty.
-#[derive(Debug, Drop)]
+#[derive(Drop)]
 pub struct LineTree<G = GameTree> {
     /// What the game is played on.
     pub inputs: List<ExprTree>,

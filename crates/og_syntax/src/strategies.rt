@@ -6,7 +6,7 @@ use og_list::List;
 use std::alloc::{AllocError, Global};
 
 /// A strategy file: its sections, in order.
-#[derive(Debug, Drop)]
+#[derive(Drop)]
 pub struct StrategyFile {
     /// The length of the text.
     pub at: u32,
@@ -15,7 +15,7 @@ pub struct StrategyFile {
 }
 
 /// How an agent plays at one of its decisions.
-#[derive(Debug, Drop)]
+#[derive(Drop)]
 pub struct Section {
     /// The place of `strategy`.
     pub at: u32,

@@ -4,7 +4,7 @@ use og_list::{List, Text};
 use std::alloc::{AllocError, Global};
 
 /// A name, with its place.
-#[derive(Debug, Drop)]
+#[derive(Drop)]
 pub struct NameTree {
     /// The place of the name's token.
     pub at: u32,
@@ -13,7 +13,7 @@ pub struct NameTree {
 }
 
 /// A variable with its type, as a parameter of a function or a wire of a block.
-#[derive(Debug, Drop)]
+#[derive(Drop)]
 pub struct ParamTree {
     /// The place of the variable.
     pub at: u32,
@@ -24,7 +24,7 @@ pub struct ParamTree {
 }
 
 /// A type as it is written.
-#[derive(Debug, Drop)]
+#[derive(Drop)]
 pub enum TyTree {
     /// A declared type, by its name: the place of the name, and the name.
     Name(u32, Text),

@@ -4,7 +4,7 @@ use og_list::{List, Text};
 use std::alloc::{AllocError, Global};
 
 /// A value as it is written.
-#[derive(Debug, Drop)]
+#[derive(Drop)]
 pub enum ValueTree {
     /// A case of an enum, by its name, or a parameter of the game: the place of the name, and the name.
     Name(u32, Text),
@@ -17,7 +17,7 @@ pub enum ValueTree {
 }
 
 /// A row of a nature or of a strategy: what is drawn or played where the key is seen.
-#[derive(Debug, Drop)]
+#[derive(Drop)]
 pub struct RowTree {
     /// The place of `(`.
     pub at: u32,
@@ -28,7 +28,7 @@ pub struct RowTree {
 }
 
 /// A value with its weight.
-#[derive(Debug, Drop)]
+#[derive(Drop)]
 pub struct EntryTree {
     /// The value.
     pub value: ValueTree,

@@ -1,9 +1,10 @@
 //! What expressions are made of. The reader of expressions that stand inside others is handed in, so that each
 //! function here is proved by itself.
-ghost use Rattle.std.specs.Prelude.{◌≡◌};
+ghost use Rattle.std.specs.Prelude.{◌≡◌, IfOk};
 ghost use Rattle.og_grammar.specs.Reading.{first, sees_any};
 ghost use Rattle.og_language.specs.Begins.{tables};
-ghost use Rattle.og_terms.specs.Chains.{IsOnly};
+ghost use Rattle.og_language.specs.Trees.{field_of};
+ghost use Rattle.og_terms.specs.Chains.{IsOnly, first_place};
 ghost use Rattle.og_terms.specs.Nests.{Nests};
 ghost use Rattle.og_terms.specs.Rooms.{Reads};
 ghost use Rattle.og_language.specs.Grammar as grammar;
@@ -17,7 +18,7 @@ use og_list::{Boxed, List};
 use og_syntax::{
     CompareOp, ExprTree, IfArm, ProductPart, ResultTree, SumPart, TableRow, ValueTree, new_box,
 };
-use std::alloc::Global;
+use std::alloc::{AllocError, Global};
 
 /// Reads parts of expressions, in a room: how deep nonterminals may still stand in one another.
 #[derive(Clone, Copy)]
@@ -472,14 +473,9 @@ impl<F: Fn(Global, &mut Tokens<'_>, usize) -> Result<ExprTree, Fault>> Inner<F> 
         requires { Nests self.now.room (F.pre self.now.expr) (F.post self.now.expr) }
         ensures { Reads self.now.room grammar.field tokens.old result tokens.new }
     {
-        let at = tokens.place();
         let part = self.primary(tokens)?;
         let path = self.path(tokens)?;
-        if path.is_empty() {
-            return Ok(part);
-        }
-        let part = new_box(self.alloc, part)?;
-        Ok(ExprTree::Field { at, part, path })
+        Ok(with_components(self.alloc, part, path)?)
     }
 
     /// `- NUMBER`, which is one literal, or a minus before another part.
@@ -550,12 +546,12 @@ impl<F: Fn(Global, &mut Tokens<'_>, usize) -> Result<ExprTree, Fault>> Inner<F> 
         requires { Nests self.now.room (F.pre self.now.expr) (F.post self.now.expr) }
         ensures { Reads self.now.room grammar.product tokens.old result tokens.new }
     {
-        let at = tokens.place();
         let first = self.unary(tokens)?;
         let rest = self.product_parts(tokens)?;
         if rest.is_empty() {
             return Ok(first);
         }
+        let at = first.at();
         let first = new_box(self.alloc, first)?;
         Ok(ExprTree::Product { at, first, rest })
     }
@@ -595,12 +591,12 @@ impl<F: Fn(Global, &mut Tokens<'_>, usize) -> Result<ExprTree, Fault>> Inner<F> 
         requires { Nests self.now.room (F.pre self.now.expr) (F.post self.now.expr) }
         ensures { Reads self.now.room grammar.sum tokens.old result tokens.new }
     {
-        let at = tokens.place();
         let first = self.product(tokens)?;
         let rest = self.sum_parts(tokens)?;
         if rest.is_empty() {
             return Ok(first);
         }
+        let at = first.at();
         let first = new_box(self.alloc, first)?;
         Ok(ExprTree::Sum { at, first, rest })
     }
@@ -611,12 +607,12 @@ impl<F: Fn(Global, &mut Tokens<'_>, usize) -> Result<ExprTree, Fault>> Inner<F> 
         requires { Nests self.now.room (F.pre self.now.expr) (F.post self.now.expr) }
         ensures { Reads self.now.room grammar.comparison tokens.old result tokens.new }
     {
-        let at = tokens.place();
         let left = self.sum(tokens)?;
         if !sees_comparison(tokens) {
             return Ok(left);
         }
         let (op, right) = self.compared(tokens)?;
+        let at = left.at();
         let left = new_box(self.alloc, left)?;
         Ok(ExprTree::Compare {
             at,
@@ -672,11 +668,13 @@ impl<F: Fn(Global, &mut Tokens<'_>, usize) -> Result<ExprTree, Fault>> Inner<F> 
         requires { Nests self.now.room (F.pre self.now.expr) (F.post self.now.expr) }
         ensures { Reads self.now.room grammar.conjunction tokens.old result tokens.new }
     {
-        let at = tokens.place();
         let parts = self.inversions(tokens)?;
         match only(parts) {
             Ok(expr) => Ok(expr),
-            Err(parts) => Ok(ExprTree::And(at, parts)),
+            Err(parts) => {
+                let at = first_place(&parts);
+                Ok(ExprTree::And(at, parts))
+            }
         }
     }
 
@@ -700,11 +698,13 @@ impl<F: Fn(Global, &mut Tokens<'_>, usize) -> Result<ExprTree, Fault>> Inner<F> 
         requires { Nests self.now.room (F.pre self.now.expr) (F.post self.now.expr) }
         ensures { Reads self.now.room grammar.expression_rule tokens.old result tokens.new }
     {
-        let at = tokens.place();
         let parts = self.conjunctions(tokens)?;
         match only(parts) {
             Ok(expr) => Ok(expr),
-            Err(parts) => Ok(ExprTree::Or(at, parts)),
+            Err(parts) => {
+                let at = first_place(&parts);
+                Ok(ExprTree::Or(at, parts))
+            }
         }
     }
 }
@@ -776,5 +776,44 @@ fn only(mut parts: List<ExprTree>) -> Result<ExprTree, List<ExprTree>>
     match parts.pop() {
         Some(only) => Ok(only),
         None => Err(parts),
+    }
+}
+
+/// Where the first expression of the list begins, and 0 where there is none.
+fn first_place(parts: &List<ExprTree>) -> u32
+    ensures { result ≡ first_place parts.now }
+{
+    match parts.as_slice() {
+        [first, ..] => first.at(),
+        [] => 0,
+    }
+}
+
+/// The components of the expression, where some are asked for. Components of components are one chain.
+#[tactic(auto)]
+fn with_components(alloc: Global, part: ExprTree, path: List<u64>) -> Result<ExprTree, AllocError>
+    ensures { IfOk result (λ made. made ≡ field_of part path) }
+{
+    if path.is_empty() {
+        return Ok(part);
+    }
+    match part {
+        ExprTree::Field {
+            at,
+            part,
+            path: mut taken,
+        } => {
+            taken.extend_from_slice(path.as_slice())?;
+            Ok(ExprTree::Field {
+                at,
+                part,
+                path: taken,
+            })
+        }
+        part => {
+            let at = part.at();
+            let part = new_box(alloc, part)?;
+            Ok(ExprTree::Field { at, part, path })
+        }
     }
 }

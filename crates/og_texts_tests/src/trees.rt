@@ -54,7 +54,7 @@ fn tell_read_body(rt: &impl Abort, alloc: Global, text: &str, told: &mut String)
 }
 
 /// Expressions, and how they are printed.
-const PRINTED: [(&str, &str); 33] = [
+const PRINTED: &[(&str, &str)] = &[
     ("007", "7 "),
     ("-3", "- 3 "),
     ("-(3)", "- ( 3 ) "),
@@ -77,6 +77,7 @@ const PRINTED: [(&str, &str); 33] = [
     ("-x.0", "- x . 0 "),
     ("(-x).0", "( - x ) . 0 "),
     ("e.1.0", "e . 1 . 0 "),
+    ("((e).1).0", "e . 1 . 0 "),
     ("(1).2", "( 1 ) . 2 "),
     (
         "if a then 1 elif b then 2 else 3 end",
@@ -110,6 +111,27 @@ fn expressions(rt: HostRuntime) {
         let mut told = String::new(rt.alloc());
         tell_read_body(&rt, rt.alloc(), text, &mut told);
         check_told(&rt, text, told.as_str(), wanted.as_str());
+    }
+}
+
+/// Where expressions begin: brackets that leave no node don't count.
+const PLACES: &[(&str, u32)] = &[
+    ("(a) + b", 1),
+    ("((a) == b) and c", 2),
+    ("(a, b)", 0),
+    ("-(3)", 0),
+    ("(e.1).0", 1),
+];
+
+#[test]
+fn places_of_expressions(rt: HostRuntime) {
+    for (text, want) in PLACES {
+        let tokens = tokens_of(&rt, rt.alloc(), text);
+        let mut rest = Tokens::new(text, tokens.as_slice());
+        let room = tokens.len().saturating_add(1);
+        let read = expr(rt.alloc(), &mut rest, room);
+        let read = read.ok().expect(&rt, "an expression");
+        assert_eq!(&rt; read.at(), *want, "{text}");
     }
 }
 
