@@ -14,7 +14,7 @@ use og_terms::{expr, rows};
 use std::alloc::Global;
 use std::process::Abort;
 
-/// Adds the canonical text of a function with this body.
+/// Adds the canonical text of a copy of the function with this body.
 fn tell_body(rt: &impl Abort, alloc: Global, body: ExprTree, told: &mut String) {
     let mut decls = List::new(alloc);
     let function = Decl::Fn {
@@ -30,6 +30,7 @@ fn tell_body(rt: &impl Abort, alloc: Global, body: ExprTree, told: &mut String) 
         version: 1,
         decls,
     };
+    let program = program.copy(alloc).expect(rt, "memory");
     let text = print_program(alloc, &program).expect(rt, "memory");
     tell(rt, told, text.as_str());
 }
@@ -153,6 +154,7 @@ fn rows_of_a_strategy(rt: HostRuntime) {
     let mut rest = Tokens::new(text, tokens.as_slice());
     let read = rows(rt.alloc(), &mut rest, tokens.len());
     let file = file_of(&rt, rt.alloc(), read.ok().expect(&rt, "rows"));
+    let file = file.copy(rt.alloc()).expect(&rt, "memory");
     let printed = print_strategy(rt.alloc(), &file).expect(&rt, "memory");
     let want =
         "strategy \"p\" {\n( ) -> A : 1 ;\n( x , 1 ) -> B : 1 / 2 , C : 2 / 4 , D : 3 ;\n}\n";
