@@ -100,6 +100,44 @@ fn write_behind(
     write_at(expr, asked, alloc, out)
 }
 
+/// Adds a word, and the first expression in the round brackets behind it.
+#[cycle(expression_texts)]
+fn write_opened(
+    expr: &ExprTree,
+    before: Word,
+    alloc: Global,
+    out: &mut Text,
+) -> Result<(), AllocError>
+    ensures { OnOk result (out.new ≡ out.old ++ (word before ++ mark Mark.LeftParen ++ expr_text expr.now)) }
+{
+    write_word(before, out)?;
+    write_behind(expr, Mark::LeftParen, OR, alloc, out)
+}
+
+/// Adds a mark, and the last expression in round brackets.
+#[cycle(expression_texts)]
+fn write_closed(
+    expr: &ExprTree,
+    before: Mark,
+    alloc: Global,
+    out: &mut Text,
+) -> Result<(), AllocError>
+    ensures { OnOk result (out.new ≡ out.old ++ (mark before ++ expr_text expr.now ++ mark Mark.RightParen)) }
+{
+    write_behind(expr, before, OR, alloc, out)?;
+    write_mark(Mark::RightParen, out)
+}
+
+/// Adds what holds where no condition is true.
+#[cycle(expression_texts)]
+fn write_else(expr: &ExprTree, alloc: Global, out: &mut Text) -> Result<(), AllocError>
+    ensures { OnOk result (out.new ≡ out.old ++ (word Word.Else ++ expr_text expr.now ++ word Word.End)) }
+{
+    write_word(Word::Else, out)?;
+    write_at(expr, OR, alloc, out)?;
+    write_word(Word::End, out)
+}
+
 /// Adds an expression without round brackets around it.
 #[cycle(expression_texts)]
 #[tactic(auto, using(crate::proofs::ExprForms::forms))]
@@ -150,9 +188,7 @@ fn write_form(expr: &ExprTree, alloc: Global, out: &mut Text) -> Result<(), Allo
         } => {
             write_word(Word::If, out)?;
             write_arms(arms, alloc, out)?;
-            write_word(Word::Else, out)?;
-            write_at(otherwise.get(), OR, alloc, out)?;
-            write_word(Word::End, out)
+            write_else(otherwise.get(), alloc, out)
         }
         ExprTree::Table { keys, rows, .. } => {
             write_word(Word::Table, out)?;
@@ -165,29 +201,22 @@ fn write_form(expr: &ExprTree, alloc: Global, out: &mut Text) -> Result<(), Allo
             otherwise,
             ..
         } => {
-            write_word(Word::Ratio, out)?;
-            write_behind(x.get(), Mark::LeftParen, OR, alloc, out)?;
+            write_opened(x.get(), Word::Ratio, alloc, out)?;
             write_behind(y.get(), Mark::Comma, OR, alloc, out)?;
-            write_behind(otherwise.get(), Mark::Comma, OR, alloc, out)?;
-            write_mark(Mark::RightParen, out)
+            write_closed(otherwise.get(), Mark::Comma, alloc, out)
         }
         ExprTree::Min(_, first, second) => {
-            write_word(Word::Min, out)?;
-            write_behind(first.get(), Mark::LeftParen, OR, alloc, out)?;
-            write_behind(second.get(), Mark::Comma, OR, alloc, out)?;
-            write_mark(Mark::RightParen, out)
+            write_opened(first.get(), Word::Min, alloc, out)?;
+            write_closed(second.get(), Mark::Comma, alloc, out)
         }
         ExprTree::Max(_, first, second) => {
-            write_word(Word::Max, out)?;
-            write_behind(first.get(), Mark::LeftParen, OR, alloc, out)?;
-            write_behind(second.get(), Mark::Comma, OR, alloc, out)?;
-            write_mark(Mark::RightParen, out)
+            write_opened(first.get(), Word::Max, alloc, out)?;
+            write_closed(second.get(), Mark::Comma, alloc, out)
         }
         ExprTree::Clamp { lo, hi, part, .. } => {
             write_word(Word::Clamp, out)?;
             write_range(alloc, *lo, *hi, out)?;
-            write_behind(part.get(), Mark::LeftParen, OR, alloc, out)?;
-            write_mark(Mark::RightParen, out)
+            write_closed(part.get(), Mark::LeftParen, alloc, out)
         }
     }
 }

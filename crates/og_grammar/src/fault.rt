@@ -1,3 +1,5 @@
+ghost use Rattle.std.specs.Prelude.{◌≡◌, Ok, Err, IfOk, IfErr};
+
 use std::alloc::AllocError;
 
 /// Why a reader stopped.
@@ -18,5 +20,16 @@ impl From<AllocError> for Fault {
 
     fn from(_: AllocError) -> Fault {
         Fault::Memory
+    }
+}
+
+/// The first part with the second, where the second could be made. At a fault the first part is let go.
+pub fn with<A: Drop, B: Drop, E: Drop>(first: A, second: Result<B, E>) -> Result<(A, B), E>
+    ensures made { IfOk result (λ parts. (parts.0 ≡ first) × (second ≡ Ok parts.1)) }
+    ensures refused { IfErr result (λ fault. second ≡ Err fault) }
+{
+    match second {
+        Ok(second) => Ok((first, second)),
+        Err(fault) => Err(fault),
     }
 }

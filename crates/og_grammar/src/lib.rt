@@ -8,7 +8,7 @@ mod repeat;
 mod terminal;
 mod tokens;
 
-pub use fault::Fault;
+pub use fault::{Fault, with};
 pub use laws::{
     Language, exact_reading, nonterminals, same_terminals, single_value, single_verdict,
     sound_reading, viable_fronts, whole_reading,

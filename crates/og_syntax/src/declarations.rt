@@ -1,5 +1,6 @@
 ghost use Rattle.std.specs.Prelude.{◌≡◌, IfOk};
 
+use crate::boxes::{add_made, both};
 use crate::expressions::ExprTree;
 use crate::games::GameTree;
 use crate::types::{NameTree, ParamTree, TyTree, copy_names, copy_params};
@@ -91,7 +92,7 @@ impl Program {
     {
         let mut decls = List::new(alloc);
         'decls: for decl in self.decls.as_slice() {
-            decls.add(decl.copy(alloc)?)?;
+            add_made(&mut decls, decl.copy(alloc))?;
         }
         Ok(Program {
             at: self.at,
@@ -107,40 +108,21 @@ impl Decl {
         ensures { IfOk result (λ made. made ≡ self.now) }
     {
         match self {
-            Decl::Enum { at, name, cases } => Ok(Decl::Enum {
-                at: *at,
-                name: name.copy(alloc)?,
-                cases: copy_names(alloc, cases)?,
-            }),
-            Decl::Alias { at, name, ty } => Ok(Decl::Alias {
-                at: *at,
-                name: name.copy(alloc)?,
-                ty: ty.copy(alloc)?,
-            }),
+            Decl::Enum { at, name, cases } => copy_enum(alloc, *at, name, cases),
+            Decl::Alias { at, name, ty } => copy_alias(alloc, *at, name, ty),
             Decl::Fn {
                 at,
                 name,
                 params,
                 answer,
                 body,
-            } => Ok(Decl::Fn {
-                at: *at,
-                name: name.copy(alloc)?,
-                params: copy_params(alloc, params)?,
-                answer: answer.copy(alloc)?,
-                body: body.copy(alloc)?,
-            }),
+            } => copy_fn(alloc, *at, name, params, answer, body),
             Decl::Game {
                 at,
                 name,
                 params,
                 body,
-            } => Ok(Decl::Game {
-                at: *at,
-                name: name.copy(alloc)?,
-                params: copy_game_params(alloc, params)?,
-                body: body.copy(alloc)?,
-            }),
+            } => copy_game(alloc, *at, name, params, body),
         }
     }
 }
@@ -150,8 +132,7 @@ impl GameParam {
     pub fn copy(&self, alloc: Global) -> Result<GameParam, AllocError>
         ensures { IfOk result (λ made. made ≡ self.now) }
     {
-        let name = self.name.copy(alloc)?;
-        let kind = self.kind.copy(alloc)?;
+        let (name, kind) = both(self.name.copy(alloc), self.kind.copy(alloc))?;
         Ok(GameParam {
             at: self.at,
             name,
@@ -178,7 +159,71 @@ fn copy_game_params(alloc: Global, params: &List<GameParam>) -> Result<List<Game
 {
     let mut all = List::new(alloc);
     'params: for param in params.as_slice() {
-        all.add(param.copy(alloc)?)?;
+        add_made(&mut all, param.copy(alloc))?;
     }
     Ok(all)
+}
+
+/// A type by equal cases, in memory of their own.
+fn copy_enum(
+    alloc: Global,
+    at: u32,
+    name: &Text,
+    cases: &List<NameTree>,
+) -> Result<Decl, AllocError>
+    ensures { IfOk result (λ made. made ≡ Decl.Enum at name.now cases.now) }
+{
+    let (name, cases) = both(name.copy(alloc), copy_names(alloc, cases))?;
+    Ok(Decl::Enum { at, name, cases })
+}
+
+/// An equal name for an equal type, in memory of their own.
+fn copy_alias(alloc: Global, at: u32, name: &Text, ty: &TyTree) -> Result<Decl, AllocError>
+    ensures { IfOk result (λ made. made ≡ Decl.Alias at name.now ty.now) }
+{
+    let (name, ty) = both(name.copy(alloc), ty.copy(alloc))?;
+    Ok(Decl::Alias { at, name, ty })
+}
+
+/// A function of equal parts, in memory of their own.
+fn copy_fn(
+    alloc: Global,
+    at: u32,
+    name: &Text,
+    params: &List<ParamTree>,
+    answer: &TyTree,
+    body: &ExprTree,
+) -> Result<Decl, AllocError>
+    ensures { IfOk result (λ made. made ≡ Decl.Fn at name.now params.now answer.now body.now) }
+{
+    let named = both(name.copy(alloc), copy_params(alloc, params));
+    let given = both(answer.copy(alloc), body.copy(alloc));
+    let ((name, params), (answer, body)) = both(named, given)?;
+    Ok(Decl::Fn {
+        at,
+        name,
+        params,
+        answer,
+        body,
+    })
+}
+
+/// A game's declaration of equal parts, in memory of their own.
+fn copy_game(
+    alloc: Global,
+    at: u32,
+    name: &Text,
+    params: &List<GameParam>,
+    body: &GameTree,
+) -> Result<Decl, AllocError>
+    ensures { IfOk result (λ made. made ≡ Decl.Game at name.now params.now body.now) }
+{
+    let named = both(name.copy(alloc), copy_game_params(alloc, params));
+    let ((name, params), body) = both(named, body.copy(alloc))?;
+    Ok(Decl::Game {
+        at,
+        name,
+        params,
+        body,
+    })
 }

@@ -1,7 +1,7 @@
-ghost use Rattle.std.specs.Prelude.{◌≡◌, IfOk};
+ghost use Rattle.std.specs.Prelude.{◌≡◌, ℕ, List, Ok, IfOk};
 ghost use Rattle.og_syntax.specs.Places.{expr_place};
 
-use crate::boxes::new_box;
+use crate::boxes::{add_made, both, new_box};
 use crate::types::TyTree;
 use crate::values::{ValueTree, copy_values};
 use og_list::{Boxed, List, Text};
@@ -226,11 +226,9 @@ impl ExprTree {
             ExprTree::Number(at, number) => Ok(ExprTree::Number(*at, *number)),
             ExprTree::Flag(at, flag) => Ok(ExprTree::Flag(*at, *flag)),
             ExprTree::Name(at, name) => Ok(ExprTree::Name(*at, name.copy(alloc)?)),
-            ExprTree::Call { at, name, args } => Ok(ExprTree::Call {
-                at: *at,
-                name: name.copy(alloc)?,
-                args: copy_exprs(alloc, args)?,
-            }),
+            ExprTree::Call { at, name, args } => {
+                call(*at, name.copy(alloc), copy_exprs(alloc, args))
+            }
             ExprTree::Or(at, parts) => Ok(ExprTree::Or(*at, copy_exprs(alloc, parts)?)),
             ExprTree::And(at, parts) => Ok(ExprTree::And(*at, copy_exprs(alloc, parts)?)),
             ExprTree::Not(at, part) => Ok(ExprTree::Not(*at, copy_box(alloc, part)?)),
@@ -239,64 +237,47 @@ impl ExprTree {
                 op,
                 left,
                 right,
-            } => Ok(ExprTree::Compare {
-                at: *at,
-                op: *op,
-                left: copy_box(alloc, left)?,
-                right: copy_box(alloc, right)?,
-            }),
-            ExprTree::Sum { at, first, rest } => Ok(ExprTree::Sum {
-                at: *at,
-                first: copy_box(alloc, first)?,
-                rest: copy_sum_parts(alloc, rest)?,
-            }),
-            ExprTree::Product { at, first, rest } => Ok(ExprTree::Product {
-                at: *at,
-                first: copy_box(alloc, first)?,
-                rest: copy_product_parts(alloc, rest)?,
-            }),
+            } => compare(*at, *op, copy_box(alloc, left), copy_box(alloc, right)),
+            ExprTree::Sum { at, first, rest } => {
+                sum(*at, copy_box(alloc, first), copy_sum_parts(alloc, rest))
+            }
+            ExprTree::Product { at, first, rest } => {
+                product(*at, copy_box(alloc, first), copy_product_parts(alloc, rest))
+            }
             ExprTree::Neg(at, part) => Ok(ExprTree::Neg(*at, copy_box(alloc, part)?)),
-            ExprTree::Field { at, part, path } => Ok(ExprTree::Field {
-                at: *at,
-                part: copy_box(alloc, part)?,
-                path: List::from_slice(alloc, path.as_slice())?,
-            }),
+            ExprTree::Field { at, part, path } => {
+                field(
+                    *at,
+                    copy_box(alloc, part),
+                    List::from_slice(alloc, path.as_slice()),
+                )
+            }
             ExprTree::Tuple(at, parts) => Ok(ExprTree::Tuple(*at, copy_exprs(alloc, parts)?)),
             ExprTree::If {
                 at,
                 arms,
                 otherwise,
-            } => Ok(ExprTree::If {
-                at: *at,
-                arms: copy_if_arms(alloc, arms)?,
-                otherwise: copy_box(alloc, otherwise)?,
-            }),
-            ExprTree::Table { at, keys, rows } => Ok(ExprTree::Table {
-                at: *at,
-                keys: copy_results(alloc, keys)?,
-                rows: copy_table_rows(alloc, rows)?,
-            }),
+            } => choice(*at, copy_if_arms(alloc, arms), copy_box(alloc, otherwise)),
+            ExprTree::Table { at, keys, rows } => {
+                table(*at, copy_results(alloc, keys), copy_table_rows(alloc, rows))
+            }
             ExprTree::Ratio {
                 at,
                 x,
                 y,
                 otherwise,
-            } => Ok(ExprTree::Ratio {
-                at: *at,
-                x: copy_box(alloc, x)?,
-                y: copy_box(alloc, y)?,
-                otherwise: copy_box(alloc, otherwise)?,
-            }),
-            ExprTree::Min(at, first, second) => Ok(ExprTree::Min(
+            } => ratio(
                 *at,
-                copy_box(alloc, first)?,
-                copy_box(alloc, second)?,
-            )),
-            ExprTree::Max(at, first, second) => Ok(ExprTree::Max(
-                *at,
-                copy_box(alloc, first)?,
-                copy_box(alloc, second)?,
-            )),
+                copy_box(alloc, x),
+                copy_box(alloc, y),
+                copy_box(alloc, otherwise),
+            ),
+            ExprTree::Min(at, first, second) => {
+                lesser(*at, copy_box(alloc, first), copy_box(alloc, second))
+            }
+            ExprTree::Max(at, first, second) => {
+                greater(*at, copy_box(alloc, first), copy_box(alloc, second))
+            }
             ExprTree::Clamp {
                 at,
                 lo_at,
@@ -343,9 +324,7 @@ impl IfArm<ExprTree> {
     pub fn copy(&self, alloc: Global) -> Result<IfArm, AllocError>
         ensures { IfOk result (λ made. made ≡ self.now) }
     {
-        let cond = self.cond.copy(alloc)?;
-        let body = self.body.copy(alloc)?;
-        Ok(IfArm { cond, body })
+        if_arm(self.cond.copy(alloc), self.body.copy(alloc))
     }
 }
 
@@ -354,13 +333,11 @@ impl TableRow<ExprTree> {
     pub fn copy(&self, alloc: Global) -> Result<TableRow, AllocError>
         ensures { IfOk result (λ made. made ≡ self.now) }
     {
-        let key = copy_values(alloc, &self.key)?;
-        let body = self.body.copy(alloc)?;
-        Ok(TableRow {
-            at: self.at,
-            key,
-            body,
-        })
+        table_row(
+            self.at,
+            copy_values(alloc, &self.key),
+            self.body.copy(alloc),
+        )
     }
 }
 
@@ -369,9 +346,7 @@ impl ResultTree<ExprTree> {
     pub fn copy(&self, alloc: Global) -> Result<ResultTree, AllocError>
         ensures { IfOk result (λ made. made ≡ self.now) }
     {
-        let expr = self.expr.copy(alloc)?;
-        let ty = self.ty.copy(alloc)?;
-        Ok(ResultTree { expr, ty })
+        typed(self.expr.copy(alloc), self.ty.copy(alloc))
     }
 }
 
@@ -393,7 +368,7 @@ pub(crate) fn copy_exprs(
 {
     let mut all = List::new(alloc);
     'exprs: for expr in exprs.as_slice() {
-        all.add(expr.copy(alloc)?)?;
+        add_made(&mut all, expr.copy(alloc))?;
     }
     Ok(all)
 }
@@ -440,9 +415,7 @@ fn copy_if_arms(alloc: Global, arms: &List<IfArm>) -> Result<List<IfArm>, AllocE
 {
     let mut all = List::new(alloc);
     'arms: for arm in arms.as_slice() {
-        let cond = arm.cond.copy(alloc)?;
-        let body = arm.body.copy(alloc)?;
-        all.add(IfArm { cond, body })?;
+        all.add(if_arm(arm.cond.copy(alloc), arm.body.copy(alloc))?)?;
     }
     Ok(all)
 }
@@ -456,10 +429,8 @@ pub(crate) fn copy_results(
     ensures { IfOk result (λ made. made ≡ results.now) }
 {
     let mut all = List::new(alloc);
-    'results: for typed in results.as_slice() {
-        let expr = typed.expr.copy(alloc)?;
-        let ty = typed.ty.copy(alloc)?;
-        all.add(ResultTree { expr, ty })?;
+    'results: for one in results.as_slice() {
+        all.add(typed(one.expr.copy(alloc), one.ty.copy(alloc))?)?;
     }
     Ok(all)
 }
@@ -471,13 +442,188 @@ fn copy_table_rows(alloc: Global, rows: &List<TableRow>) -> Result<List<TableRow
 {
     let mut all = List::new(alloc);
     'rows: for row in rows.as_slice() {
-        let key = copy_values(alloc, &row.key)?;
-        let body = row.body.copy(alloc)?;
-        all.add(TableRow {
-            at: row.at,
-            key,
-            body,
-        })?;
+        let key = copy_values(alloc, &row.key);
+        all.add(table_row(row.at, key, row.body.copy(alloc))?)?;
     }
     Ok(all)
+}
+
+/// A call of these parts, where they could be made.
+fn call(
+    at: u32,
+    name: Result<Text, AllocError>,
+    args: Result<List<ExprTree>, AllocError>,
+) -> Result<ExprTree, AllocError>
+    ensures { (n : List ℕ) (a : List ExprTree) → IfOk name (λ it. it ≡ n) → IfOk args (λ it. it ≡ a)
+        → IfOk result (λ made. made ≡ ExprTree.Call at n a) }
+{
+    let (name, args) = both(name, args)?;
+    Ok(ExprTree::Call { at, name, args })
+}
+
+/// A comparison of these parts, where they could be made.
+fn compare(
+    at: u32,
+    op: CompareOp,
+    left: Result<Boxed<ExprTree>, AllocError>,
+    right: Result<Boxed<ExprTree>, AllocError>,
+) -> Result<ExprTree, AllocError>
+    ensures { (l : ExprTree) (r : ExprTree) → IfOk left (λ it. it ≡ l) → IfOk right (λ it. it ≡ r)
+        → IfOk result (λ made. made ≡ ExprTree.Compare at op l r) }
+{
+    let (left, right) = both(left, right)?;
+    Ok(ExprTree::Compare {
+        at,
+        op,
+        left,
+        right,
+    })
+}
+
+/// A sum of these parts, where they could be made.
+fn sum(
+    at: u32,
+    first: Result<Boxed<ExprTree>, AllocError>,
+    rest: Result<List<SumPart>, AllocError>,
+) -> Result<ExprTree, AllocError>
+    ensures { (f : ExprTree) (r : List (SumPart ExprTree)) → IfOk first (λ it. it ≡ f) → IfOk rest (λ it. it ≡ r)
+        → IfOk result (λ made. made ≡ ExprTree.Sum at f r) }
+{
+    let (first, rest) = both(first, rest)?;
+    Ok(ExprTree::Sum { at, first, rest })
+}
+
+/// A product of these parts, where they could be made.
+fn product(
+    at: u32,
+    first: Result<Boxed<ExprTree>, AllocError>,
+    rest: Result<List<ProductPart>, AllocError>,
+) -> Result<ExprTree, AllocError>
+    ensures { (f : ExprTree) (r : List (ProductPart ExprTree)) → IfOk first (λ it. it ≡ f) → IfOk rest (λ it. it ≡ r)
+        → IfOk result (λ made. made ≡ ExprTree.Product at f r) }
+{
+    let (first, rest) = both(first, rest)?;
+    Ok(ExprTree::Product { at, first, rest })
+}
+
+/// A component, where its parts could be made.
+fn field(
+    at: u32,
+    part: Result<Boxed<ExprTree>, AllocError>,
+    path: Result<List<u64>, AllocError>,
+) -> Result<ExprTree, AllocError>
+    ensures { (e : ExprTree) (p : List ℕ) → IfOk part (λ it. it ≡ e) → IfOk path (λ it. it ≡ p)
+        → IfOk result (λ made. made ≡ ExprTree.Field at e p) }
+{
+    let (part, path) = both(part, path)?;
+    Ok(ExprTree::Field { at, part, path })
+}
+
+/// A choice by these conditions, where its parts could be made.
+fn choice(
+    at: u32,
+    arms: Result<List<IfArm>, AllocError>,
+    otherwise: Result<Boxed<ExprTree>, AllocError>,
+) -> Result<ExprTree, AllocError>
+    ensures { (a : List (IfArm ExprTree)) (o : ExprTree) → IfOk arms (λ it. it ≡ a) → IfOk otherwise (λ it. it ≡ o)
+        → IfOk result (λ made. made ≡ ExprTree.If at a o) }
+{
+    let (arms, otherwise) = both(arms, otherwise)?;
+    Ok(ExprTree::If {
+        at,
+        arms,
+        otherwise,
+    })
+}
+
+/// A table of these parts, where they could be made.
+fn table(
+    at: u32,
+    keys: Result<List<ResultTree>, AllocError>,
+    rows: Result<List<TableRow>, AllocError>,
+) -> Result<ExprTree, AllocError>
+    ensures { (k : List (ResultTree ExprTree)) (r : List (TableRow ExprTree)) → IfOk keys (λ it. it ≡ k) → IfOk rows (λ it. it ≡ r)
+        → IfOk result (λ made. made ≡ ExprTree.Table at k r) }
+{
+    let (keys, rows) = both(keys, rows)?;
+    Ok(ExprTree::Table { at, keys, rows })
+}
+
+/// A quotient of these parts, where they could be made.
+fn ratio(
+    at: u32,
+    x: Result<Boxed<ExprTree>, AllocError>,
+    y: Result<Boxed<ExprTree>, AllocError>,
+    otherwise: Result<Boxed<ExprTree>, AllocError>,
+) -> Result<ExprTree, AllocError>
+    ensures { (a : ExprTree) (b : ExprTree) (c : ExprTree) → IfOk x (λ it. it ≡ a) → IfOk y (λ it. it ≡ b)
+        → IfOk otherwise (λ it. it ≡ c) → IfOk result (λ made. made ≡ ExprTree.Ratio at a b c) }
+{
+    let ((x, y), otherwise) = both(both(x, y), otherwise)?;
+    Ok(ExprTree::Ratio {
+        at,
+        x,
+        y,
+        otherwise,
+    })
+}
+
+/// The lesser of two, where they could be made.
+fn lesser(
+    at: u32,
+    first: Result<Boxed<ExprTree>, AllocError>,
+    second: Result<Boxed<ExprTree>, AllocError>,
+) -> Result<ExprTree, AllocError>
+    ensures { (f : ExprTree) (s : ExprTree) → IfOk first (λ it. it ≡ f) → IfOk second (λ it. it ≡ s)
+        → IfOk result (λ made. made ≡ ExprTree.Min at f s) }
+{
+    let (first, second) = both(first, second)?;
+    Ok(ExprTree::Min(at, first, second))
+}
+
+/// The greater of two, where they could be made.
+fn greater(
+    at: u32,
+    first: Result<Boxed<ExprTree>, AllocError>,
+    second: Result<Boxed<ExprTree>, AllocError>,
+) -> Result<ExprTree, AllocError>
+    ensures { (f : ExprTree) (s : ExprTree) → IfOk first (λ it. it ≡ f) → IfOk second (λ it. it ≡ s)
+        → IfOk result (λ made. made ≡ ExprTree.Max at f s) }
+{
+    let (first, second) = both(first, second)?;
+    Ok(ExprTree::Max(at, first, second))
+}
+
+/// A condition with what holds under it, where they could be made.
+fn if_arm(
+    cond: Result<ExprTree, AllocError>,
+    body: Result<ExprTree, AllocError>,
+) -> Result<IfArm, AllocError>
+    ensures { IfOk result (λ made. (cond ≡ Ok made.cond) × (body ≡ Ok made.body)) }
+{
+    let (cond, body) = both(cond, body)?;
+    Ok(IfArm { cond, body })
+}
+
+/// A row of a table, where its parts could be made.
+fn table_row(
+    at: u32,
+    key: Result<List<ValueTree>, AllocError>,
+    body: Result<ExprTree, AllocError>,
+) -> Result<TableRow, AllocError>
+    ensures { IfOk result (λ made. (made.at ≡ at) × (key ≡ Ok made.key) × (body ≡ Ok made.body)) }
+{
+    let (key, body) = both(key, body)?;
+    Ok(TableRow { at, key, body })
+}
+
+/// An expression with its type, where they could be made.
+fn typed(
+    expr: Result<ExprTree, AllocError>,
+    ty: Result<TyTree, AllocError>,
+) -> Result<ResultTree, AllocError>
+    ensures { IfOk result (λ made. (expr ≡ Ok made.expr) × (ty ≡ Ok made.ty)) }
+{
+    let (expr, ty) = both(expr, ty)?;
+    Ok(ResultTree { expr, ty })
 }

@@ -1,6 +1,6 @@
-ghost use Rattle.std.specs.Prelude.{◌≡◌, IfOk};
+ghost use Rattle.std.specs.Prelude.{◌≡◌, ℕ, List, Ok, IfOk};
 
-use crate::boxes::new_box;
+use crate::boxes::{add_made, both, new_box};
 use crate::expressions::{ExprTree, ResultTree, copy_exprs, copy_results};
 use crate::types::{NameTree, ParamTree, TyTree, copy_names, copy_params, copy_types};
 use crate::values::{RowTree, ValueTree, copy_rows, copy_values};
@@ -216,7 +216,7 @@ impl Among {
     {
         let mut rows = List::new(alloc);
         'rows: for row in self.rows.as_slice() {
-            rows.add(row.copy(alloc)?)?;
+            add_made(&mut rows, row.copy(alloc))?;
         }
         Ok(Among { at: self.at, rows })
     }
@@ -227,8 +227,10 @@ impl AmongTree {
     pub fn copy(&self, alloc: Global) -> Result<AmongTree, AllocError>
         ensures { IfOk result (λ made. made ≡ self.now) }
     {
-        let key = copy_values(alloc, &self.key)?;
-        let actions = copy_values(alloc, &self.actions)?;
+        let (key, actions) = both(
+            copy_values(alloc, &self.key),
+            copy_values(alloc, &self.actions),
+        )?;
         Ok(AmongTree {
             at: self.at,
             key,
@@ -244,27 +246,19 @@ impl GameTree {
         ensures { IfOk result (λ made. made ≡ self.now) }
     {
         match self {
-            GameTree::Call { at, name, args } => Ok(GameTree::Call {
-                at: *at,
-                name: name.copy(alloc)?,
-                args: copy_args(alloc, args)?,
-            }),
-            GameTree::Seq(first, second) => Ok(GameTree::Seq(
-                copy_box(alloc, first)?,
-                copy_box(alloc, second)?,
-            )),
-            GameTree::Par(first, second) => Ok(GameTree::Par(
-                copy_box(alloc, first)?,
-                copy_box(alloc, second)?,
-            )),
+            GameTree::Call { at, name, args } => {
+                call(*at, name.copy(alloc), copy_args(alloc, args))
+            }
+            GameTree::Seq(first, second) => {
+                sequence(copy_box(alloc, first), copy_box(alloc, second))
+            }
+            GameTree::Par(first, second) => {
+                beside(copy_box(alloc, first), copy_box(alloc, second))
+            }
             GameTree::Block { at, block } => {
                 let block = block.get();
-                let lines = copy_lines(alloc, &block.lines)?;
-                let made = copy_border(alloc, block, lines)?;
-                Ok(GameTree::Block {
-                    at: *at,
-                    block: new_box(alloc, made)?,
-                })
+                let lines = copy_lines(alloc, &block.lines);
+                boxed_block(*at, alloc, copy_border(alloc, block, lines))
             }
             GameTree::Decision {
                 at,
@@ -272,60 +266,35 @@ impl GameTree {
                 observes,
                 action,
                 among,
-            } => Ok(GameTree::Decision {
-                at: *at,
-                agent: agent.copy(alloc)?,
-                observes: copy_types(alloc, observes)?,
-                action: action.copy(alloc)?,
-                among: copy_among(alloc, among)?,
-            }),
+            } => copy_decision(alloc, *at, agent, observes, action, among),
             GameTree::Nature {
                 at,
                 observes,
                 outcome,
                 rows,
-            } => Ok(GameTree::Nature {
-                at: *at,
-                observes: copy_types(alloc, observes)?,
-                outcome: outcome.copy(alloc)?,
-                rows: copy_rows(alloc, rows)?,
-            }),
+            } => copy_nature(alloc, *at, observes, outcome, rows),
             GameTree::Forward {
                 at,
                 params,
                 results,
-            } => Ok(GameTree::Forward {
-                at: *at,
-                params: copy_params(alloc, params)?,
-                results: copy_results(alloc, results)?,
-            }),
+            } => copy_forward(alloc, *at, params, results),
             GameTree::Backward {
                 at,
                 params,
                 results,
-            } => Ok(GameTree::Backward {
-                at: *at,
-                params: copy_params(alloc, params)?,
-                results: copy_results(alloc, results)?,
-            }),
+            } => copy_backward(alloc, *at, params, results),
             GameTree::Identity {
                 at,
                 forward,
                 backward,
-            } => Ok(GameTree::Identity {
-                at: *at,
-                forward: copy_types(alloc, forward)?,
-                backward: copy_types(alloc, backward)?,
-            }),
+            } => copy_identity(alloc, *at, forward, backward),
             GameTree::Library { at, name } => Ok(GameTree::Library {
                 at: *at,
                 name: name.copy(alloc)?,
             }),
-            GameTree::Branch { at, selector, arms } => Ok(GameTree::Branch {
-                at: *at,
-                selector: selector.copy(alloc)?,
-                arms: copy_arms(alloc, arms)?,
-            }),
+            GameTree::Branch { at, selector, arms } => {
+                branch(*at, selector.copy(alloc), copy_arms(alloc, arms))
+            }
         }
     }
 }
@@ -335,13 +304,7 @@ impl ArmTree<GameTree> {
     pub fn copy(&self, alloc: Global) -> Result<ArmTree, AllocError>
         ensures { IfOk result (λ made. made ≡ self.now) }
     {
-        let key = self.key.copy(alloc)?;
-        let game = self.game.copy(alloc)?;
-        Ok(ArmTree {
-            at: self.at,
-            key,
-            game,
-        })
+        arm(self.at, self.key.copy(alloc), self.game.copy(alloc))
     }
 }
 
@@ -350,8 +313,7 @@ impl BlockTree<GameTree> {
     pub fn copy(&self, alloc: Global) -> Result<BlockTree, AllocError>
         ensures { IfOk result (λ made. made ≡ self.now) }
     {
-        let lines = copy_lines(alloc, &self.lines)?;
-        copy_border(alloc, self, lines)
+        copy_border(alloc, self, copy_lines(alloc, &self.lines))
     }
 }
 
@@ -360,8 +322,7 @@ impl LineTree<GameTree> {
     pub fn copy(&self, alloc: Global) -> Result<LineTree, AllocError>
         ensures { IfOk result (λ made. made ≡ self.now) }
     {
-        let operation = self.operation.copy(alloc)?;
-        copy_wires(alloc, self, operation)
+        copy_wires(alloc, self, self.operation.copy(alloc))
     }
 }
 
@@ -380,8 +341,7 @@ fn copy_lines(alloc: Global, lines: &List<LineTree>) -> Result<List<LineTree>, A
 {
     let mut all = List::new(alloc);
     'lines: for line in lines.as_slice() {
-        let operation = line.operation.copy(alloc)?;
-        all.add(copy_wires(alloc, line, operation)?)?;
+        all.add(copy_wires(alloc, line, line.operation.copy(alloc))?)?;
     }
     Ok(all)
 }
@@ -392,36 +352,36 @@ fn copy_arms(alloc: Global, arms: &List<ArmTree>) -> Result<List<ArmTree>, Alloc
     ensures { IfOk result (λ made. made ≡ arms.now) }
 {
     let mut all = List::new(alloc);
-    'arms: for arm in arms.as_slice() {
-        let key = arm.key.copy(alloc)?;
-        let game = arm.game.copy(alloc)?;
-        all.add(ArmTree {
-            at: arm.at,
-            key,
-            game,
-        })?;
+    'arms: for one in arms.as_slice() {
+        all.add(arm(one.at, one.key.copy(alloc), one.game.copy(alloc))?)?;
     }
     Ok(all)
 }
 
-/// The block with these lines in place of its own, and with an equal border in memory of its own.
+/// The block with these lines in place of its own, where they could be made, and with an equal border in memory of its
+/// own.
 fn copy_border(
     alloc: Global,
     block: &BlockTree,
-    lines: List<LineTree>,
+    lines: Result<List<LineTree>, AllocError>,
 ) -> Result<BlockTree, AllocError>
-    ensures { IfOk result (λ made. made ≡ record {
+    ensures { (l : List (LineTree GameTree)) → IfOk lines (λ it. it ≡ l) → IfOk result (λ made. made ≡ record {
       inputs = block.now.inputs;
       feedback = block.now.feedback;
-      lines = lines;
+      lines = l;
       outputs = block.now.outputs;
       returns = block.now.returns;
     }) }
 {
-    let inputs = copy_params(alloc, &block.inputs)?;
-    let feedback = copy_results(alloc, &block.feedback)?;
-    let outputs = copy_results(alloc, &block.outputs)?;
-    let returns = copy_params(alloc, &block.returns)?;
+    let front = both(
+        copy_params(alloc, &block.inputs),
+        copy_results(alloc, &block.feedback),
+    );
+    let back = both(
+        copy_results(alloc, &block.outputs),
+        copy_params(alloc, &block.returns),
+    );
+    let (lines, ((inputs, feedback), (outputs, returns))) = both(lines, both(front, back))?;
     Ok(BlockTree {
         inputs,
         feedback,
@@ -431,20 +391,25 @@ fn copy_border(
     })
 }
 
-/// The line with this game in place of its own, and with equal wires in memory of their own.
-fn copy_wires(alloc: Global, line: &LineTree, operation: GameTree) -> Result<LineTree, AllocError>
-    ensures { IfOk result (λ made. made ≡ record {
-      inputs = line.now.inputs;
-      feedback = line.now.feedback;
-      operation = operation;
-      outputs = line.now.outputs;
-      returns = line.now.returns;
-    }) }
+/// The line with this game in place of its own, where it could be made, and with equal wires in memory of their own.
+fn copy_wires(
+    alloc: Global,
+    line: &LineTree,
+    operation: Result<GameTree, AllocError>,
+) -> Result<LineTree, AllocError>
+    ensures { IfOk result (λ made. (operation ≡ Ok made.operation)
+        × (made.inputs ≡ line.now.inputs) × (made.feedback ≡ line.now.feedback)
+        × (made.outputs ≡ line.now.outputs) × (made.returns ≡ line.now.returns)) }
 {
-    let inputs = copy_exprs(alloc, &line.inputs)?;
-    let feedback = copy_names(alloc, &line.feedback)?;
-    let outputs = copy_names(alloc, &line.outputs)?;
-    let returns = copy_exprs(alloc, &line.returns)?;
+    let front = both(
+        copy_exprs(alloc, &line.inputs),
+        copy_names(alloc, &line.feedback),
+    );
+    let back = both(
+        copy_names(alloc, &line.outputs),
+        copy_exprs(alloc, &line.returns),
+    );
+    let (operation, ((inputs, feedback), (outputs, returns))) = both(operation, both(front, back))?;
     Ok(LineTree {
         inputs,
         feedback,
@@ -460,7 +425,7 @@ fn copy_args(alloc: Global, list: &List<ArgTree>) -> Result<List<ArgTree>, Alloc
 {
     let mut all = List::new(alloc);
     'list: for arg in list.as_slice() {
-        all.add(arg.copy(alloc)?)?;
+        add_made(&mut all, arg.copy(alloc))?;
     }
     Ok(all)
 }
@@ -473,4 +438,173 @@ fn copy_among(alloc: Global, among: &Option<Among>) -> Result<Option<Among>, All
         Some(rows) => Ok(Some(rows.copy(alloc)?)),
         None => Ok(None),
     }
+}
+
+/// A call of these parts, where they could be made.
+fn call(
+    at: u32,
+    name: Result<Text, AllocError>,
+    args: Result<List<ArgTree>, AllocError>,
+) -> Result<GameTree, AllocError>
+    ensures { (n : List ℕ) (a : List ArgTree) → IfOk name (λ it. it ≡ n) → IfOk args (λ it. it ≡ a)
+        → IfOk result (λ made. made ≡ GameTree.Call at n a) }
+{
+    let (name, args) = both(name, args)?;
+    Ok(GameTree::Call { at, name, args })
+}
+
+/// The second game on what the first gives, where they could be made.
+fn sequence(
+    first: Result<Boxed<GameTree>, AllocError>,
+    second: Result<Boxed<GameTree>, AllocError>,
+) -> Result<GameTree, AllocError>
+    ensures { (f : GameTree) (s : GameTree) → IfOk first (λ it. it ≡ f) → IfOk second (λ it. it ≡ s)
+        → IfOk result (λ made. made ≡ GameTree.Seq f s) }
+{
+    let (first, second) = both(first, second)?;
+    Ok(GameTree::Seq(first, second))
+}
+
+/// Two games side by side, where they could be made.
+fn beside(
+    first: Result<Boxed<GameTree>, AllocError>,
+    second: Result<Boxed<GameTree>, AllocError>,
+) -> Result<GameTree, AllocError>
+    ensures { (f : GameTree) (s : GameTree) → IfOk first (λ it. it ≡ f) → IfOk second (λ it. it ≡ s)
+        → IfOk result (λ made. made ≡ GameTree.Par f s) }
+{
+    let (first, second) = both(first, second)?;
+    Ok(GameTree::Par(first, second))
+}
+
+/// A block of these parts, where they could be made.
+fn boxed_block(
+    at: u32,
+    alloc: Global,
+    block: Result<BlockTree, AllocError>,
+) -> Result<GameTree, AllocError>
+    ensures { (b : BlockTree GameTree) → IfOk block (λ it. it ≡ b)
+        → IfOk result (λ made. made ≡ GameTree.Block at b) }
+{
+    let block = new_box(alloc, block?)?;
+    Ok(GameTree::Block { at, block })
+}
+
+/// A branch of these parts, where they could be made.
+fn branch(
+    at: u32,
+    selector: Result<TyTree, AllocError>,
+    arms: Result<List<ArmTree>, AllocError>,
+) -> Result<GameTree, AllocError>
+    ensures { (s : TyTree) (a : List (ArmTree GameTree)) → IfOk selector (λ it. it ≡ s) → IfOk arms (λ it. it ≡ a)
+        → IfOk result (λ made. made ≡ GameTree.Branch at s a) }
+{
+    let (selector, arms) = both(selector, arms)?;
+    Ok(GameTree::Branch { at, selector, arms })
+}
+
+/// An arm of these parts, where they could be made.
+fn arm(
+    at: u32,
+    key: Result<ValueTree, AllocError>,
+    game: Result<GameTree, AllocError>,
+) -> Result<ArmTree, AllocError>
+    ensures { IfOk result (λ made. (made.at ≡ at) × (key ≡ Ok made.key) × (game ≡ Ok made.game)) }
+{
+    let (key, game) = both(key, game)?;
+    Ok(ArmTree { at, key, game })
+}
+
+/// A decision of equal parts, in memory of their own.
+fn copy_decision(
+    alloc: Global,
+    at: u32,
+    agent: &AgentTree,
+    observes: &List<TyTree>,
+    action: &TyTree,
+    among: &Option<Among>,
+) -> Result<GameTree, AllocError>
+    ensures { IfOk result (λ made. made ≡ GameTree.Decision at agent.now observes.now action.now among.now) }
+{
+    let decides = both(agent.copy(alloc), copy_types(alloc, observes));
+    let acts = both(action.copy(alloc), copy_among(alloc, among));
+    let ((agent, observes), (action, among)) = both(decides, acts)?;
+    Ok(GameTree::Decision {
+        at,
+        agent,
+        observes,
+        action,
+        among,
+    })
+}
+
+/// A draw of equal parts, in memory of their own.
+fn copy_nature(
+    alloc: Global,
+    at: u32,
+    observes: &List<TyTree>,
+    outcome: &TyTree,
+    rows: &List<RowTree>,
+) -> Result<GameTree, AllocError>
+    ensures { IfOk result (λ made. made ≡ GameTree.Nature at observes.now outcome.now rows.now) }
+{
+    let typed = both(copy_types(alloc, observes), outcome.copy(alloc));
+    let ((observes, outcome), rows) = both(typed, copy_rows(alloc, rows))?;
+    Ok(GameTree::Nature {
+        at,
+        observes,
+        outcome,
+        rows,
+    })
+}
+
+/// Expressions on the way forward of equal parts, in memory of their own.
+fn copy_forward(
+    alloc: Global,
+    at: u32,
+    params: &List<ParamTree>,
+    results: &List<ResultTree>,
+) -> Result<GameTree, AllocError>
+    ensures { IfOk result (λ made. made ≡ GameTree.Forward at params.now results.now) }
+{
+    let (params, results) = both(copy_params(alloc, params), copy_results(alloc, results))?;
+    Ok(GameTree::Forward {
+        at,
+        params,
+        results,
+    })
+}
+
+/// Expressions on the way back of equal parts, in memory of their own.
+fn copy_backward(
+    alloc: Global,
+    at: u32,
+    params: &List<ParamTree>,
+    results: &List<ResultTree>,
+) -> Result<GameTree, AllocError>
+    ensures { IfOk result (λ made. made ≡ GameTree.Backward at params.now results.now) }
+{
+    let (params, results) = both(copy_params(alloc, params), copy_results(alloc, results))?;
+    Ok(GameTree::Backward {
+        at,
+        params,
+        results,
+    })
+}
+
+/// Wires of equal types, in memory of their own.
+fn copy_identity(
+    alloc: Global,
+    at: u32,
+    forward: &List<TyTree>,
+    backward: &List<TyTree>,
+) -> Result<GameTree, AllocError>
+    ensures { IfOk result (λ made. made ≡ GameTree.Identity at forward.now backward.now) }
+{
+    let (forward, backward) = both(copy_types(alloc, forward), copy_types(alloc, backward))?;
+    Ok(GameTree::Identity {
+        at,
+        forward,
+        backward,
+    })
 }

@@ -1,5 +1,6 @@
 ghost use Rattle.std.specs.Prelude.{◌≡◌, IfOk};
 
+use crate::boxes::{add_made, both};
 use crate::types::NameTree;
 use crate::values::{RowTree, copy_rows};
 use og_list::List;
@@ -32,7 +33,7 @@ impl StrategyFile {
     {
         let mut sections = List::new(alloc);
         'sections: for section in self.sections.as_slice() {
-            sections.add(section.copy(alloc)?)?;
+            add_made(&mut sections, section.copy(alloc))?;
         }
         Ok(StrategyFile {
             at: self.at,
@@ -46,8 +47,7 @@ impl Section {
     pub fn copy(&self, alloc: Global) -> Result<Section, AllocError>
         ensures { IfOk result (λ made. made ≡ self.now) }
     {
-        let agent = self.agent.copy(alloc)?;
-        let rows = copy_rows(alloc, &self.rows)?;
+        let (agent, rows) = both(self.agent.copy(alloc), copy_rows(alloc, &self.rows))?;
         Ok(Section {
             at: self.at,
             agent,

@@ -1,5 +1,6 @@
 ghost use Rattle.std.specs.Prelude.{◌≡◌, IfOk};
 
+use crate::boxes::{add_made, both};
 use og_list::{List, Text};
 use std::alloc::{AllocError, Global};
 
@@ -54,8 +55,7 @@ impl ParamTree {
     pub fn copy(&self, alloc: Global) -> Result<ParamTree, AllocError>
         ensures { IfOk result (λ made. made ≡ self.now) }
     {
-        let name = self.name.copy(alloc)?;
-        let ty = self.ty.copy(alloc)?;
+        let (name, ty) = both(self.name.copy(alloc), self.ty.copy(alloc))?;
         Ok(ParamTree {
             at: self.at,
             name,
@@ -87,7 +87,7 @@ pub(crate) fn copy_types(alloc: Global, types: &List<TyTree>) -> Result<List<TyT
 {
     let mut all = List::new(alloc);
     'types: for ty in types.as_slice() {
-        all.add(ty.copy(alloc)?)?;
+        add_made(&mut all, ty.copy(alloc))?;
     }
     Ok(all)
 }
@@ -101,7 +101,7 @@ pub(crate) fn copy_names(
 {
     let mut all = List::new(alloc);
     'names: for name in names.as_slice() {
-        all.add(name.copy(alloc)?)?;
+        add_made(&mut all, name.copy(alloc))?;
     }
     Ok(all)
 }
@@ -115,7 +115,7 @@ pub(crate) fn copy_params(
 {
     let mut all = List::new(alloc);
     'params: for param in params.as_slice() {
-        all.add(param.copy(alloc)?)?;
+        add_made(&mut all, param.copy(alloc))?;
     }
     Ok(all)
 }

@@ -1,5 +1,6 @@
 ghost use Rattle.std.specs.Prelude.{◌≡◌, IfOk};
 
+use crate::boxes::{add_made, both};
 use og_list::{List, Text};
 use std::alloc::{AllocError, Global};
 
@@ -58,8 +59,10 @@ impl RowTree {
     pub fn copy(&self, alloc: Global) -> Result<RowTree, AllocError>
         ensures { IfOk result (λ made. made ≡ self.now) }
     {
-        let key = copy_values(alloc, &self.key)?;
-        let entries = copy_entries(alloc, &self.entries)?;
+        let (key, entries) = both(
+            copy_values(alloc, &self.key),
+            copy_entries(alloc, &self.entries),
+        )?;
         Ok(RowTree {
             at: self.at,
             key,
@@ -92,7 +95,7 @@ pub(crate) fn copy_values(
 {
     let mut all = List::new(alloc);
     'values: for value in values.as_slice() {
-        all.add(value.copy(alloc)?)?;
+        add_made(&mut all, value.copy(alloc))?;
     }
     Ok(all)
 }
@@ -103,7 +106,7 @@ fn copy_entries(alloc: Global, entries: &List<EntryTree>) -> Result<List<EntryTr
 {
     let mut all = List::new(alloc);
     'entries: for entry in entries.as_slice() {
-        all.add(entry.copy(alloc)?)?;
+        add_made(&mut all, entry.copy(alloc))?;
     }
     Ok(all)
 }
@@ -114,7 +117,7 @@ pub(crate) fn copy_rows(alloc: Global, rows: &List<RowTree>) -> Result<List<RowT
 {
     let mut all = List::new(alloc);
     'rows: for row in rows.as_slice() {
-        all.add(row.copy(alloc)?)?;
+        add_made(&mut all, row.copy(alloc))?;
     }
     Ok(all)
 }

@@ -3,7 +3,7 @@
 ghost use Rattle.std.specs.Prelude.{◌≡◌, IfOk};
 ghost use Rattle.og_grammar.specs.Reading.{first, sees_any};
 ghost use Rattle.og_language.specs.Begins.{tables};
-ghost use Rattle.og_language.specs.Trees.{field_of};
+ghost use Rattle.og_language.specs.Trees.{field_of, product_of, sum_of};
 ghost use Rattle.og_terms.specs.Chains.{IsOnly, first_place};
 ghost use Rattle.og_terms.specs.Nests.{Nests};
 ghost use Rattle.og_terms.specs.Rooms.{Reads};
@@ -12,7 +12,7 @@ ghost use Rattle.og_language.specs.Grammar as grammar;
 use crate::names::{bound, name, nonzero};
 use crate::types::ty;
 use crate::values::some_values;
-use og_grammar::{Fault, Terminal, Tokens, commas_or_none, many, separated};
+use og_grammar::{Fault, Terminal, Tokens, commas_or_none, many, separated, with};
 use og_lex::{Mark, Word};
 use og_list::{Boxed, List};
 use og_syntax::{
@@ -74,8 +74,8 @@ impl<F: Fn(Global, &mut Tokens<'_>, usize) -> Result<ExprTree, Fault>> Inner<F> 
         ensures { Reads self.now.room grammar.arm tokens.old result tokens.new }
     {
         let cond = self.expr(tokens)?;
-        tokens.take(Terminal::Word(Word::Then))?;
-        let body = self.expr(tokens)?;
+        let (cond, _) = with(cond, tokens.take(Terminal::Word(Word::Then)))?;
+        let (cond, body) = with(cond, self.expr(tokens))?;
         Ok(IfArm { cond, body })
     }
 
@@ -101,7 +101,7 @@ impl<F: Fn(Global, &mut Tokens<'_>, usize) -> Result<ExprTree, Fault>> Inner<F> 
     {
         tokens.take(Terminal::Word(Word::Else))?;
         let otherwise = self.expr(tokens)?;
-        tokens.take(Terminal::Word(Word::End))?;
+        let (otherwise, _) = with(otherwise, tokens.take(Terminal::Word(Word::End)))?;
         Ok(otherwise)
     }
 
@@ -186,8 +186,8 @@ impl<F: Fn(Global, &mut Tokens<'_>, usize) -> Result<ExprTree, Fault>> Inner<F> 
         ensures { Reads self.now.room grammar.result tokens.old result tokens.new }
     {
         let expr = self.expr(tokens)?;
-        tokens.take(Terminal::Mark(Mark::Colon))?;
-        let ty = ty(self.alloc, tokens, self.room)?;
+        let (expr, _) = with(expr, tokens.take(Terminal::Mark(Mark::Colon)))?;
+        let (expr, ty) = with(expr, ty(self.alloc, tokens, self.room))?;
         Ok(ResultTree { expr, ty })
     }
 
@@ -211,8 +211,8 @@ impl<F: Fn(Global, &mut Tokens<'_>, usize) -> Result<ExprTree, Fault>> Inner<F> 
     {
         let (at, key) = self.table_key(tokens)?;
         tokens.take(Terminal::Mark(Mark::Arrow))?;
-        let body = self.expr(tokens)?;
-        tokens.take(Terminal::Mark(Mark::Semicolon))?;
+        let (key, body) = with(key, self.expr(tokens))?;
+        let (body, _) = with(body, tokens.take(Terminal::Mark(Mark::Semicolon)))?;
         Ok(TableRow { at, key, body })
     }
 
@@ -473,8 +473,7 @@ impl<F: Fn(Global, &mut Tokens<'_>, usize) -> Result<ExprTree, Fault>> Inner<F> 
         requires { Nests self.now.room (F.pre self.now.expr) (F.post self.now.expr) }
         ensures { Reads self.now.room grammar.field tokens.old result tokens.new }
     {
-        let part = self.primary(tokens)?;
-        let path = self.path(tokens)?;
+        let (part, path) = with(self.primary(tokens)?, self.path(tokens))?;
         Ok(with_components(self.alloc, part, path)?)
     }
 
@@ -546,14 +545,8 @@ impl<F: Fn(Global, &mut Tokens<'_>, usize) -> Result<ExprTree, Fault>> Inner<F> 
         requires { Nests self.now.room (F.pre self.now.expr) (F.post self.now.expr) }
         ensures { Reads self.now.room grammar.product tokens.old result tokens.new }
     {
-        let first = self.unary(tokens)?;
-        let rest = self.product_parts(tokens)?;
-        if rest.is_empty() {
-            return Ok(first);
-        }
-        let at = first.at();
-        let first = new_box(self.alloc, first)?;
-        Ok(ExprTree::Product { at, first, rest })
+        let (first, rest) = with(self.unary(tokens)?, self.product_parts(tokens))?;
+        Ok(product_onto(self.alloc, first, rest)?)
     }
 
     /// `+ PRODUCT`, or `- PRODUCT`.
@@ -591,14 +584,8 @@ impl<F: Fn(Global, &mut Tokens<'_>, usize) -> Result<ExprTree, Fault>> Inner<F> 
         requires { Nests self.now.room (F.pre self.now.expr) (F.post self.now.expr) }
         ensures { Reads self.now.room grammar.sum tokens.old result tokens.new }
     {
-        let first = self.product(tokens)?;
-        let rest = self.sum_parts(tokens)?;
-        if rest.is_empty() {
-            return Ok(first);
-        }
-        let at = first.at();
-        let first = new_box(self.alloc, first)?;
-        Ok(ExprTree::Sum { at, first, rest })
+        let (first, rest) = with(self.product(tokens)?, self.sum_parts(tokens))?;
+        Ok(sum_onto(self.alloc, first, rest)?)
     }
 
     /// A sum, or a comparison of two.
@@ -611,8 +598,8 @@ impl<F: Fn(Global, &mut Tokens<'_>, usize) -> Result<ExprTree, Fault>> Inner<F> 
         if !sees_comparison(tokens) {
             return Ok(left);
         }
-        let (op, right) = self.compared(tokens)?;
         let at = left.at();
+        let (left, (op, right)) = with(left, self.compared(tokens))?;
         let left = new_box(self.alloc, left)?;
         Ok(ExprTree::Compare {
             at,
@@ -787,6 +774,34 @@ fn first_place(parts: &List<ExprTree>) -> u32
         [first, ..] => first.at(),
         [] => 0,
     }
+}
+
+/// The product of the first part and the others, or the first part alone where there are no others.
+fn product_onto(
+    alloc: Global,
+    first: ExprTree,
+    rest: List<ProductPart>,
+) -> Result<ExprTree, AllocError>
+    ensures { IfOk result (λ made. made ≡ product_of first rest) }
+{
+    if rest.is_empty() {
+        return Ok(first);
+    }
+    let at = first.at();
+    let first = new_box(alloc, first)?;
+    Ok(ExprTree::Product { at, first, rest })
+}
+
+/// The sum of the first part and the others, or the first part alone where there are no others.
+fn sum_onto(alloc: Global, first: ExprTree, rest: List<SumPart>) -> Result<ExprTree, AllocError>
+    ensures { IfOk result (λ made. made ≡ sum_of first rest) }
+{
+    if rest.is_empty() {
+        return Ok(first);
+    }
+    let at = first.at();
+    let first = new_box(alloc, first)?;
+    Ok(ExprTree::Sum { at, first, rest })
 }
 
 /// The components of the expression, where some are asked for. Components of components are one chain.

@@ -14,7 +14,7 @@ abbrev pub invariant-copy_if_arms-arms : goal.invariant-copy_if_arms-arms
 invariant-copy_if_arms-arms l = l.all ≡ take l.arm-index l.arms
 
 abbrev pub invariant-copy_results-results : goal.invariant-copy_results-results
-invariant-copy_results-results l = l.all ≡ take l.typed-index l.results
+invariant-copy_results-results l = l.all ≡ take l.one-index l.results
 
 abbrev pub invariant-copy_table_rows-rows : goal.invariant-copy_table_rows-rows
 invariant-copy_table_rows-rows l = l.all ≡ take l.row-index l.rows

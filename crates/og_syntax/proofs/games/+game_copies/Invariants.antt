@@ -5,4 +5,4 @@ abbrev pub invariant-copy_lines-lines : goal.invariant-copy_lines-lines
 invariant-copy_lines-lines l = l.all ≡ take l.line-index l.lines
 
 abbrev pub invariant-copy_arms-arms : goal.invariant-copy_arms-arms
-invariant-copy_arms-arms l = l.all ≡ take l.arm-index l.arms
+invariant-copy_arms-arms l = l.all ≡ take l.one-index l.arms
