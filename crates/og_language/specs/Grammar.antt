@@ -390,9 +390,13 @@ argument =
     alt (map (λ v. args.Quoted v.0 v.1) (at quoted))
     (alt (map (λ v. args.Var v.0 v.1) (at (spelling_of terminals.Under))) (map args.Val value_part))
 
--- "(" argument { "," argument } ")"
+-- argument { "," argument }
+unfoldable pub some_arguments : Spells (List ArgTree)
+some_arguments = commas argument
+
+-- "(" some_arguments ")"
 unfoldable pub arguments : Spells (List ArgTree)
-arguments = within (mark m.LeftParen) (commas argument) (mark m.RightParen)
+arguments = within (mark m.LeftParen) some_arguments (mark m.RightParen)
 
 -- Name [ arguments ]
 unfoldable pub call : Spells GameTree
@@ -412,15 +416,23 @@ among_row =
     map (λ v. record { at = v.0.0; key = v.0.1; actions = v.1 })
     (seq key (behind (mark m.Arrow) (before some_values (mark m.Semicolon))))
 
--- "among" "{" { among_row } "}"
+-- { among_row }
+unfoldable pub among_rows : Spells (List AmongTree)
+among_rows = star among_row
+
+-- "among" "{" among_rows "}"
 unfoldable pub among : Spells Among
 among =
     map (λ v. record { at = v.0; rows = v.1 })
-    (seq (word w.Among) (within (mark m.LeftBrace) (star among_row) (mark m.RightBrace)))
+    (seq (word w.Among) (within (mark m.LeftBrace) among_rows (mark m.RightBrace)))
 
--- agent type_list type [ among ]
+-- [ among ]
+unfoldable pub among_or_all : Spells (Option Among)
+among_or_all = opt among
+
+-- agent type_list type among_or_all
 unfoldable pub decided : Spells (AgentTree × (List TyTree × (TyTree × Option Among)))
-decided = seq agent (seq type_list (seq ty (opt among)))
+decided = seq agent (seq type_list (seq ty among_or_all))
 
 -- "dependentDecision" decided
 unfoldable pub decision : Spells GameTree
@@ -435,11 +447,17 @@ nature = map (λ v. games.Nature v.0 v.1.0 v.1.1.0 v.1.1.1) (seq (word w.Nature)
 unfoldable pub results : Spells (List (ResultTree ExprTree))
 results = commas_or_none result
 
--- "(" params ")" "->" "(" results ")"
+-- "(" params ")"
+unfoldable pub params_in_brackets : Spells (List ParamTree)
+params_in_brackets = within (mark m.LeftParen) params (mark m.RightParen)
+
+-- "(" results ")"
+unfoldable pub results_in_brackets : Spells (List (ResultTree ExprTree))
+results_in_brackets = within (mark m.LeftParen) results (mark m.RightParen)
+
+-- params_in_brackets "->" results_in_brackets
 unfoldable pub signature : Spells (List ParamTree × List (ResultTree ExprTree))
-signature =
-    seq (within (mark m.LeftParen) params (mark m.RightParen))
-    (behind (mark m.Arrow) (within (mark m.LeftParen) results (mark m.RightParen)))
+signature = seq params_in_brackets (behind (mark m.Arrow) results_in_brackets)
 
 -- "forwardFunction" signature | "backwardFunction" signature
 unfoldable pub function : Spells GameTree
@@ -485,17 +503,24 @@ unfoldable pub operation : Bool → Spells GameTree
 operation branches =
     within (word w.Operation) (behind (mark m.Colon) (subgame branches)) (mark m.Semicolon)
 
--- [ "inputs" .. ] [ "feedback" .. ] operation [ "outputs" .. ] [ "returns" .. ]
+-- [ "outputs" .. ] [ "returns" .. ]
+unfoldable pub line_back : Spells (List NameTree × List ExprTree)
+line_back = seq (names_field w.Outputs) (exprs_field w.Returns)
+
+-- [ "inputs" .. ] [ "feedback" .. ] operation line_back
 unfoldable pub line : Bool → Spells (LineTree GameTree)
 line branches =
     map (λ v. record { inputs = v.0; feedback = v.1.0; operation = v.1.1.0; outputs = v.1.1.1.0; returns = v.1.1.1.1 })
     (seq (exprs_field w.Inputs)
-    (seq (names_field w.Feedback)
-    (seq (operation branches) (seq (names_field w.Outputs) (exprs_field w.Returns)))))
+    (seq (names_field w.Feedback) (seq (operation branches) line_back)))
 
--- Separator { line } Separator
+-- { line }
+unfoldable pub line_list : Bool → Spells (List (LineTree GameTree))
+line_list branches = star (line branches)
+
+-- Separator line_list Separator
 unfoldable pub lines : Bool → Spells (List (LineTree GameTree))
-lines branches = within (place_of terminals.Separator) (star (line branches)) (place_of terminals.Separator)
+lines branches = within (place_of terminals.Separator) (line_list branches) (place_of terminals.Separator)
 
 -- [ "inputs" .. ] [ "feedback" .. ] lines [ "outputs" .. ] [ "returns" .. ]
 unfoldable pub block_inside : Bool → Spells (BlockTree GameTree)
@@ -511,58 +536,90 @@ block branches =
     map (λ v. games.Block v.0 v.1)
     (seq (word w.Block) (within (mark m.LeftBrace) (block_inside branches) (mark m.RightBrace)))
 
--- "(" value ")" "->" game ";"
+-- "->" game ";"
+unfoldable pub arm_game : Spells GameTree
+arm_game = behind (mark m.Arrow) (before (subgame true) (mark m.Semicolon))
+
+-- "(" value ")" arm_game
 unfoldable pub branch_arm : Spells (ArmTree GameTree)
 branch_arm =
     map (λ v. record { at = v.0; key = v.1.0; game = v.1.1 })
-    (seq (mark m.LeftParen)
-    (seq (before value_part (mark m.RightParen))
-    (behind (mark m.Arrow) (before (subgame true) (mark m.Semicolon)))))
+    (seq (mark m.LeftParen) (seq (before value_part (mark m.RightParen)) arm_game))
 
--- "branch" type "{" { branch_arm } "}"
+-- { branch_arm }
+unfoldable pub branch_arms : Spells (List (ArmTree GameTree))
+branch_arms = star branch_arm
+
+-- "{" branch_arms "}"
+unfoldable pub arms_in_braces : Spells (List (ArmTree GameTree))
+arms_in_braces = within (mark m.LeftBrace) branch_arms (mark m.RightBrace)
+
+-- "branch" type arms_in_braces
 unfoldable pub branch : Spells GameTree
 branch =
     map (λ v. games.Branch v.0 v.1.0 v.1.1)
-    (seq (word w.Branch) (seq ty (within (mark m.LeftBrace) (star branch_arm) (mark m.RightBrace))))
+    (seq (word w.Branch) (seq ty arms_in_braces))
 
--- call | game_in_brackets | block | decision | nature | function | identity | library
+-- decision | nature | function | identity | library
+unfoldable pub plain_form : Spells GameTree
+plain_form = alt decision (alt nature (alt function (alt identity library)))
+
+-- call | game_in_brackets | block | plain_form
 unfoldable pub plain_atom : Bool → Spells GameTree
-plain_atom branches =
-    alt call
-    (alt (game_in_brackets branches)
-    (alt (block branches) (alt decision (alt nature (alt function (alt identity library))))))
+plain_atom branches = alt call (alt (game_in_brackets branches) (alt (block branches) plain_form))
 
 -- plain_atom, or branch where it may stand
 unfoldable pub atom : Bool → Spells GameTree
 atom true = alt branch (plain_atom true)
 atom false = plain_atom false
 
--- atom { "&&&" atom }
-unfoldable pub beside : Bool → Spells GameTree
-beside branches = map (λ v. par_onto v.0 v.1) (seq (atom branches) (star (behind (mark m.Beside) (atom branches))))
+-- "&&&" atom
+unfoldable pub next_beside : Bool → Spells GameTree
+next_beside branches = behind (mark m.Beside) (atom branches)
 
--- beside { ">>>" beside }
+-- { next_beside }
+unfoldable pub others_beside : Bool → Spells (List GameTree)
+others_beside branches = star (next_beside branches)
+
+-- atom others_beside
+unfoldable pub beside : Bool → Spells GameTree
+beside branches = map (λ v. par_onto v.0 v.1) (seq (atom branches) (others_beside branches))
+
+-- ">>>" beside
+unfoldable pub next_then : Bool → Spells GameTree
+next_then branches = behind (mark m.Then) (beside branches)
+
+-- { next_then }
+unfoldable pub others_then : Bool → Spells (List GameTree)
+others_then branches = star (next_then branches)
+
+-- beside others_then
 unfoldable pub game_rule : Bool → Spells GameTree
-game_rule branches =
-    map (λ v. seq_onto v.0 v.1) (seq (beside branches) (star (behind (mark m.Then) (beside branches))))
+game_rule branches = map (λ v. seq_onto v.0 v.1) (seq (beside branches) (others_then branches))
 
 -- ---- declarations
 
--- "{" Name { "," Name } "}"
+-- Name { "," Name }
+unfoldable pub some_names : Spells (List NameTree)
+some_names = commas placed_name
+
+-- "{" some_names "}"
 unfoldable pub cases : Spells (List NameTree)
-cases = within (mark m.LeftBrace) (commas placed_name) (mark m.RightBrace)
+cases = within (mark m.LeftBrace) some_names (mark m.RightBrace)
 
 abbrev pub type_of : NameTree → List NameTree ⊎ TyTree → Decl
 type_of name (inl names) = decls.Enum name.at name.name names
 type_of name (inr t) = decls.Alias name.at name.name t
 
--- "type" Name "=" ( cases | type ) ";"
+-- cases | type
+unfoldable pub cases_or_type : Spells (List NameTree ⊎ TyTree)
+cases_or_type = alt (map inl cases) (map inr ty)
+
+-- "type" Name "=" cases_or_type ";"
 unfoldable pub type_decl : Spells Decl
 type_decl =
     map (λ v. type_of v.0 v.1)
-    (behind (word w.Type)
-    (seq placed_name
-    (behind (mark m.Assign) (before (alt (map inl cases) (map inr ty)) (mark m.Semicolon)))))
+    (behind (word w.Type) (seq placed_name (behind (mark m.Assign) (before cases_or_type (mark m.Semicolon)))))
 
 -- ":" type "=" expr
 unfoldable pub answer : Spells (TyTree × ExprTree)
@@ -574,7 +631,7 @@ fn_decl =
     map (λ v. decls.Fn v.0.at v.0.name v.1.0 v.1.1.0 v.1.1.1)
     (behind (word w.Fn)
     (seq placed_name
-    (seq (within (mark m.LeftParen) params (mark m.RightParen)) (before answer (mark m.Semicolon)))))
+    (seq params_in_brackets (before answer (mark m.Semicolon)))))
 
 -- "agent" | type
 unfoldable pub param_kind : Spells ParamKind
@@ -586,29 +643,48 @@ game_param =
     map (λ v. record { at = v.0.at; name = v.0.name; kind = v.1 })
     (seq name_tree (behind (mark m.Colon) param_kind))
 
--- "(" game_param { "," game_param } ")"
-unfoldable pub game_params : Spells (List GameParam)
-game_params = within (mark m.LeftParen) (commas game_param) (mark m.RightParen)
+-- game_param { "," game_param }
+unfoldable pub some_game_params : Spells (List GameParam)
+some_game_params = commas game_param
 
--- "game" Name [ game_params ] "=" game ";"
+-- "(" some_game_params ")"
+unfoldable pub game_params : Spells (List GameParam)
+game_params = within (mark m.LeftParen) some_game_params (mark m.RightParen)
+
+-- [ game_params ]
+unfoldable pub game_params_or_none : Spells (List GameParam)
+game_params_or_none = map or_empty (opt game_params)
+
+-- "=" game ";"
+unfoldable pub game_body : Bool → Spells GameTree
+game_body branches = behind (mark m.Assign) (before (subgame branches) (mark m.Semicolon))
+
+-- "game" Name game_params_or_none game_body
 unfoldable pub game_decl : Bool → Spells Decl
 game_decl branches =
-    map (λ v. decls.Game v.0.at v.0.name (or_empty v.1.0) v.1.1)
-    (behind (word w.Game)
-    (seq placed_name
-    (seq (opt game_params) (behind (mark m.Assign) (before (subgame branches) (mark m.Semicolon))))))
+    map (λ v. decls.Game v.0.at v.0.name v.1.0 v.1.1)
+    (behind (word w.Game) (seq placed_name (seq game_params_or_none (game_body branches))))
 
 -- type_decl | fn_decl | game_decl
 unfoldable pub decl : Bool → Spells Decl
 decl branches = alt type_decl (alt fn_decl (game_decl branches))
 
--- "version" TWO ";"
-unfoldable pub header : Spells ℕ
-header = within (word w.Version) (map (λ t. t.value) (one terminals.Number (λ t. t.value == 2))) (mark m.Semicolon)
+-- a Number that is 2
+unfoldable pub second : Spells ℕ
+second = map (λ t. t.value) (one terminals.Number (λ t. t.value == 2))
 
--- { decl } | header { decl }, where branches may stand behind a header alone: the version and the declarations
+-- "version" second ";"
+unfoldable pub header : Spells ℕ
+header = within (word w.Version) second (mark m.Semicolon)
+
+-- { decl }
+unfoldable pub declarations : Bool → Spells (List Decl)
+declarations branches = star (decl branches)
+
+-- declarations | header declarations, where branches may stand behind a header alone: the version and the
+-- declarations
 unfoldable pub program : Spells (ℕ × List Decl)
-program = alt (seq header (star (decl true))) (map (λ ds. (1, ds)) (star (decl false)))
+program = alt (seq header (declarations true)) (map (λ ds. (1, ds)) (declarations false))
 
 -- ---- strategy files
 

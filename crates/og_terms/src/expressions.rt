@@ -2,7 +2,8 @@ ghost use Rattle.og_terms.specs.Rooms.{Reads};
 ghost use Rattle.og_language.specs.Grammar as grammar;
 
 use crate::inner::Inner;
-use og_grammar::{Fault, Tokens};
+use og_grammar::{Fault, Terminal, Tokens, commas_or_none};
+use og_lex::{Mark, Word};
 use og_list::List;
 use og_syntax::{ExprTree, ResultTree};
 use std::alloc::Global;
@@ -41,4 +42,31 @@ pub fn result(alloc: Global, tokens: &mut Tokens<'_>, room: usize) -> Result<Res
 {
     let inner = Inner { alloc, room, expr };
     inner.result(tokens)
+}
+
+/// Results with commas between, or none.
+pub fn results(
+    alloc: Global,
+    tokens: &mut Tokens<'_>,
+    room: usize,
+) -> Result<List<ResultTree>, Fault>
+    ensures { Reads room grammar.results tokens.old result tokens.new }
+{
+    let begins = [
+        Terminal::Word(Word::Not),
+        Terminal::Mark(Mark::Minus),
+        Terminal::Number,
+        Terminal::Name,
+        Terminal::Under,
+        Terminal::Word(Word::True),
+        Terminal::Word(Word::False),
+        Terminal::Mark(Mark::LeftParen),
+        Terminal::Word(Word::If),
+        Terminal::Word(Word::Table),
+        Terminal::Word(Word::Ratio),
+        Terminal::Word(Word::Min),
+        Terminal::Word(Word::Max),
+        Terminal::Word(Word::Clamp),
+    ];
+    commas_or_none(alloc, tokens, room, &begins, result)
 }

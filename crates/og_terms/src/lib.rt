@@ -9,7 +9,9 @@ mod names;
 mod types;
 mod values;
 
-pub use expressions::{expr, exprs_or_none, result};
-pub use names::{name, name_tree, nonzero, placed_name, placed_quoted, variable};
+pub use expressions::{expr, exprs_or_none, result, results};
+pub use names::{
+    name, name_tree, names_or_none, nonzero, placed_name, placed_quoted, some_names, variable,
+};
 pub use types::{param, params, ty, type_list};
 pub use values::{key, rows, some_values, value};

@@ -1,9 +1,9 @@
 ghost use Rattle.og_terms.specs.Rooms.{Reads};
 ghost use Rattle.og_language.specs.Grammar as grammar;
 
-use og_grammar::{Fault, Terminal, Tokens};
+use og_grammar::{Fault, Terminal, Tokens, commas_or_none, separated};
 use og_lex::Mark;
-use og_list::Text;
+use og_list::{List, Text};
 use og_syntax::NameTree;
 use std::alloc::Global;
 
@@ -55,6 +55,40 @@ pub fn placed_quoted(alloc: Global, tokens: &mut Tokens<'_>, room: usize) -> Res
     let at = tokens.place();
     let name = tokens.quoted(alloc)?;
     Ok(NameTree { at, name })
+}
+
+/// Variables with commas between, or none.
+pub fn names_or_none(
+    alloc: Global,
+    tokens: &mut Tokens<'_>,
+    room: usize,
+) -> Result<List<NameTree>, Fault>
+    ensures { Reads room grammar.names_or_none tokens.old result tokens.new }
+{
+    commas_or_none(
+        alloc,
+        tokens,
+        room,
+        &[Terminal::Name, Terminal::Under],
+        name_tree,
+    )
+}
+
+/// Names with commas between, one or more.
+pub fn some_names(
+    alloc: Global,
+    tokens: &mut Tokens<'_>,
+    room: usize,
+) -> Result<List<NameTree>, Fault>
+    ensures { Reads room grammar.some_names tokens.old result tokens.new }
+{
+    separated(
+        alloc,
+        tokens,
+        room,
+        Terminal::Mark(Mark::Comma),
+        placed_name,
+    )
 }
 
 /// A number that isn't 0.

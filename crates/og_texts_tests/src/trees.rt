@@ -162,7 +162,7 @@ fn rows_of_a_strategy(rt: HostRuntime) {
 }
 
 /// The text as often as is said.
-fn times(rt: &impl Abort, alloc: Global, text: &str, count: u32) -> String {
+pub(crate) fn times(rt: &impl Abort, alloc: Global, text: &str, count: u32) -> String {
     let mut all = String::new(alloc);
     for _ in 0..count {
         tell(rt, &mut all, text);

@@ -1,0 +1,40 @@
+use Rattle.std.proofs.Common.{◌≡◌, Option, None, Some, Ok, Err, length, refl, subst, sym}
+use Rattle.og_lex.specs.Spelling.{IsTokenOf}
+use Rattle.og_grammar.specs.declared.fault.Fault.{Fault}
+use Rattle.og_language.specs.Grammar.{program}
+use Rattle.og_language.specs.laws.Fine.{program_led}
+use Rattle.og_parse.specs.Parsed.{IsAtFault}
+use Rattle.og_parse.specs.Whole.{fault_of}
+use Rattle.og_parse.proofs.Fronts.{tokens_shown, told_by, deep_spelled, fault_told, IsFirst}
+use Rattle.og_parse.proofs.parse.parse_program.Goals as goal
+
+pub new-rest-requires : goal.new-rest-requires
+new-rest-requires c =
+    rw (sym c.tokens_through-shown.ensures) at (tokens_shown (IsTokenOf c.args.text.now) c.args.tokens.now c.first_deep-deep.result c.requires.tokens)
+
+pub returns-in-None : goal.returns-in-None
+returns-in-None c = (
+  refl,
+  (
+    told_by program program_led c.args.text.now c.args.tokens.now None _ _ _ _ (Ok (c.in-Ok.version, c.in-Ok.decls))
+        (rw c.in-None.is at c.tokens_through-shown.ensures) c.new-rest.ensures c.program-read.ensures c.in-Ok.ensures,
+    c.in-None.ensures,
+  ),
+)
+
+pub returns-in-Some : goal.returns-in-Some
+returns-in-Some c =
+    deep_spelled program c.args.text.now c.args.tokens.now c.in-Some.k (c.in-Ok.version, c.in-Ok.decls)
+    (record { deep = c.in-Some.ensures.0; first = c.in-Some.ensures.1 })
+    (told_by program program_led c.args.text.now c.args.tokens.now (Some c.in-Some.k) _ _ _ _ (Ok (c.in-Ok.version, c.in-Ok.decls))
+    (rw c.in-Some.is at c.tokens_through-shown.ensures) c.new-rest.ensures c.program-read.ensures c.in-Ok.ensures)
+
+pub returns-in-Err : goal.returns-in-Err
+returns-in-Err c =
+    subst (IsAtFault program c.args.text.now c.args.tokens.now) (sym c.place_fault.ensures)
+    (subst
+    (λ s. IsAtFault program c.args.text.now c.args.tokens.now (fault_of c.in-Err.fault (length s) c.first_deep-deep.result))
+    (sym c.tokens_through-shown.ensures)
+    (fault_told program c.args.text.now c.args.tokens.now c.first_deep-deep.result c.in-Err.fault c.first_deep-deep.ensures
+    (told_by program program_led c.args.text.now c.args.tokens.now c.first_deep-deep.result _ _ _ _ (Err c.in-Err.fault)
+    c.tokens_through-shown.ensures c.new-rest.ensures c.program-read.ensures c.in-Err.ensures)))

@@ -1,0 +1,3 @@
+pub mod NestsGames
+pub mod Parsed
+pub mod Whole
