@@ -1,3 +1,4 @@
+pub mod BlankBehind
 pub mod ByteLen
 pub mod CharacterRuns
 pub mod FirstCharacter
@@ -12,3 +13,4 @@ pub mod TableLookups
 pub mod TextCuts
 pub mod TokenAt
 pub mod WordBytes
+pub mod WrittenBack

@@ -1,11 +1,11 @@
 -- Where the tokens of a text stand in it.
 use Rattle.std.proofs.Common.{◌≡◌, ℕ, ◌+◌, ◌-◌, ◌<◌, ◌≤◌, true, List, [], ◌∷◌, ◌++◌, length, take, drop, refl, sym, ap, ◌∙◌, subst, arith, append_assoc, length-append}
-use Rattle.std.specs.Prelude.{Option, Some, None, Result, Ok, Err, IfOk, encode_utf8_all, ◌&&◌}
+use Rattle.std.specs.Prelude.{Option, Some, None, Result, Ok, Err, IfOk, encode_utf8_all, slice_range, ◌&&◌}
 use Rattle.std.specs.List.{All, AllByRecursion}
-use Rattle.std.specs.Str.{IsUtf8, IsCharBoundary}
+use Rattle.std.specs.Str.{chars, IsUtf8, IsCharBoundary}
 use Rattle.std.proofs.Math.Seq.{take-append_seam, drop-append_seam}
 use Rattle.std.proofs.lemmas.List.Elements.{All-from_recursion}
-use Rattle.std.proofs.lemmas.Str.{encodes-chars, scalars-chars, encodes-append, IsCharBoundary-at_seam}
+use Rattle.std.proofs.lemmas.Str.{encodes-chars, chars-encodes, scalars-chars, encodes-append, IsCharBoundary-at_seam}
 use Rattle.std.proofs.lemmas.Bool.{and_parts}
 use lib.Utf8.{scalar, scalars}
 use Rattle.og_lex.specs.declared.token.Kind.{Kind}
@@ -57,18 +57,16 @@ middle text before front after kind e u some s =
     let parts = scalars-parts before (front ++ after) u in
     let later = scalars-parts front after parts.1 in
     let here : length (b ++ f) ≡ length b + length f = length-append b f in
+    let width : length b + length f - length b ≡ length f = omega arith in
+    let from : drop (length b) text ≡ f ++ a = ap (drop (length b)) whole ∙ drop-append_seam b (f ++ a) in
+    let slice : slice_range text (length b) (length b + length f) ≡ f = ap (λ n. take n (drop (length b) text)) width ∙ ap (take (length f)) from ∙ take-append_seam f a in
     record {
       some = omega arith;
       within = omega (arith, ap length cut, length-append (b ++ f) a);
       begins = IsCharBoundary-at_seam text b (f ++ a) whole (front ++ after, (parts.1, back));
       ends = subst (IsCharBoundary text) here (IsCharBoundary-at_seam text (b ++ f) a cut (after, (later.1, refl)));
-      spelled = (
-        front,
-        (let width : length b + length f - length b ≡ length f = omega arith in
-            let from : drop (length b) text ≡ f ++ a = ap (drop (length b)) whole ∙ drop-append_seam b (f ++ a) in
-            ap (λ n. take n (drop (length b) text)) width ∙ ap (take (length f)) from ∙ take-append_seam f a),
-        s,
-      );
+      utf8 = (front, (later.0, sym slice));
+      spelled = subst (Spells kind) (sym (ap chars slice ∙ chars-encodes front later.0)) s;
     }
 
 one_written : (what : Option Kind) (text before front after : List ℕ) (ts : List Token) → text ≡ encode_utf8_all (before ++ (front ++ after)) → scalars (before ++ (front ++ after)) ≡ true → Stands what front (after ++ [])
@@ -93,9 +91,21 @@ order_from text (Ok ts) u l =
     let end : 0 + byte_len (characters_of l.pieces) ≡ length text = omega (arith, ap byte_len l.whole, byte_len-chars text u) in
     subst (AreInOrder 0 (length text)) (sym l.tokens) (in_order l.pieces [] 0 (length text) l.each end)
 
-pub each_from : (text : List ℕ) (r : Result (List Token) LexFault) → IsUtf8 text → Lexed text r → IfOk r (All (IsTokenOf text))
-each_from text (Err fault) u l = tt
-each_from text (Ok ts) u l =
+pub in_turn_from : (text : List ℕ) (r : Result (List Token) LexFault) → IsUtf8 text → Lexed text r → IfOk r (AllByRecursion (IsTokenOf text))
+in_turn_from text (Err fault) u l = tt
+in_turn_from text (Ok ts) u l =
     let all = each_written l.pieces text [] l.each (sym (encodes-chars text u) ∙ ap encode_utf8_all l.whole) (ap scalars (sym l.whole) ∙ scalars-chars text u) in
-    let here : AllByRecursion (IsTokenOf text) ts = subst (AllByRecursion (IsTokenOf text)) (sym l.tokens) (subst (λ n. AllByRecursion (IsTokenOf text) (tokens_of n l.pieces)) byte_len-nil all) in
-    All-from_recursion (IsTokenOf text) ts here
+    subst (AllByRecursion (IsTokenOf text)) (sym l.tokens) (subst (λ n. AllByRecursion (IsTokenOf text) (tokens_of n l.pieces)) byte_len-nil all)
+
+pub each_from : (text : List ℕ) (r : Result (List Token) LexFault) → IfOk r (AllByRecursion (IsTokenOf text)) → IfOk r (All (IsTokenOf text))
+each_from text (Err fault) all = tt
+each_from text (Ok ts) all = All-from_recursion (IsTokenOf text) ts all
+
+-- tokens in order are no more than the bytes that they stand among
+few : (place end : ℕ) (ts : List Token) → AreInOrder place end ts → place + length ts ≤ end
+few place end [] o = omega (arith, o)
+few place end (t ∷ ts) o = omega (arith, o.0, o.1, few t.end end ts o.2)
+
+pub few_from : (end : ℕ) (r : Result (List Token) LexFault) → IfOk r (AreInOrder 0 end) → IfOk r (λ ts. length ts ≤ end)
+few_from end (Err fault) o = tt
+few_from end (Ok ts) o = omega (arith, few 0 end ts o)

@@ -67,7 +67,7 @@ unfolding word_of
 word_of-is name w e = among_text all_words name w e
 
 -- where each mark stands in the table
-place : (m : Mark) → (i : ℕ) × (slice_get all_marks i ≡ Some m)
+pub place : (m : Mark) → (i : ℕ) × (slice_get all_marks i ≡ Some m)
 unfolding all_marks
 place marks.Then = (0, refl)
 place marks.Beside = (1, refl)
@@ -179,7 +179,7 @@ short marks.Beside = refl
 pub mark_short : (m : Mark) → length (mark_text m) ≤ 3
 mark_short m = leb-true (length (mark_text m)) 3 (short m)
 
-all_at : (p : Mark → Bool) (ms : List Mark) (i : ℕ) (m : Mark) → list_all p ms ≡ true → slice_get ms i ≡ Some m → p m ≡ true
+pub all_at : (p : Mark → Bool) (ms : List Mark) (i : ℕ) (m : Mark) → list_all p ms ≡ true → slice_get ms i ≡ Some m → p m ≡ true
 all_at p [] i m a e = cc
 all_at p (k ∷ ms) zero m a e = let h = and_parts (p k) (list_all p ms) a in let at : k ≡ m = cc in subst (λ x. p x ≡ true) at h.0
 all_at p (k ∷ ms) (suc i) m a e = all_at p ms i m (and_parts (p k) (list_all p ms) a).1 e

@@ -42,7 +42,7 @@ pub begins_sort : (kind : Kind) (front rest : List ℕ) (c : ℕ) (cs : List ℕ
 begins_sort kind [] rest c cs e b = absurd (spelled_some kind [] b.spelled refl)
 begins_sort kind (d ∷ front) rest c cs e b = let at : d ≡ c = cc in ap sort_of (sym at) ∙ spelled_sort kind d front b.spelled
 
-names_continue : (front : List ℕ) → is_name front ≡ true → list_all is_xid_continue front ≡ true
+pub names_continue : (front : List ℕ) → is_name front ≡ true → list_all is_xid_continue front ≡ true
 names_continue [] e = refl
 names_continue (c ∷ cs) e =
     let h = and_parts (is_xid_start c) (list_all is_xid_continue cs) e in
@@ -81,7 +81,7 @@ name_told place c cs s =
     }
 
 -- an underscore
-under_all : (front : List ℕ) → Spells kinds.Under front → (list_all is_xid_continue front ≡ true) × (2 ≤ length front)
+pub under_all : (front : List ℕ) → Spells kinds.Under front → (list_all is_xid_continue front ≡ true) × (2 ≤ length front)
 under_all front s =
     let goes : is_xid_continue 95 ≡ true = is_xid_continue-ascii 95 (lit< tt) in
     (ap (list_all is_xid_continue) s.1 ∙ and_from (is_xid_continue 95) (list_all is_xid_continue s.0) goes s.3, omega (arith, ap length s.1, some_length s.0 s.2))

@@ -1,7 +1,7 @@
 -- What the tokens of a text are, whatever reads them.
-use Rattle.std.specs.Prelude.{◌≡◌, ◌≢◌, ◌⊎◌, ℕ, ◌+◌, ◌^◌, ◌<◌, ◌≤◌, Bool, true, false, ◌==◌, ◌&&◌, if◌then◌else◌, List, [], ◌∷◌, ◌++◌, length, codes, Option, Some, None, Result, Ok, Err, slice_range, encode_utf8_all}
+use Rattle.std.specs.Prelude.{◌≡◌, ◌≢◌, ◌⊎◌, ℕ, ◌+◌, ◌^◌, ◌<◌, ◌≤◌, Bool, true, false, ◌==◌, ◌&&◌, if◌then◌else◌, List, [], ◌∷◌, ◌++◌, length, codes, Option, Some, None, Result, Ok, Err, slice_range}
 use Rattle.std.specs.List.{list_all}
-use Rattle.std.specs.Str.{chars, IsCharBoundary}
+use Rattle.std.specs.Str.{chars, IsCharBoundary, IsUtf8}
 use Rattle.std.specs.Str.Parse.{digits_value}
 use Rattle.unicode_ident.specs.Ident.{is_xid_start, is_xid_continue}
 use Rattle.og_lex.specs.declared.token.Kind.{Kind}
@@ -149,4 +149,5 @@ pub record IsTokenOf (text : List ℕ) (t : Token) : Type 0 where
   pub within : t.end ≤ length text
   pub begins : IsCharBoundary text t.start
   pub ends : IsCharBoundary text t.end
-  pub spelled : (front : List ℕ) × (slice_range text t.start t.end ≡ encode_utf8_all front) × Spells t.kind front
+  pub utf8 : IsUtf8 (slice_range text t.start t.end)
+  pub spelled : Spells t.kind (chars (slice_range text t.start t.end))

@@ -1,4 +1,5 @@
 ghost use Rattle.std.specs.Prelude.{All, ◌≡◌, ◌≢◌, ◌≤◌, ◌⊎◌, length, IfErr, IfOk, MatchResult, OnOk};
+ghost use Rattle.std.specs.List.{AllByRecursion};
 ghost use Rattle.og_lex.specs.Spelling.{AreInOrder, IsTokenOf, Lexed};
 ghost use Rattle.og_lex.specs.LeftToRight.{tokens, with_token_of};
 
@@ -17,7 +18,7 @@ pub const MAX_TEXT: usize = 1_048_576;
 /// Refuses a text in which a place comes where no token, blank or comment starts, and tells the first
 /// such place and why. It asks for memory only for the list of tokens.
 pub fn lex(alloc: Global, text: &str) -> Result<List<Token>, LexFault>
-    requires { length text.now ≤ MAX_TEXT }
+    requires { length text.now ≤ 1048576 }
     // By the definition of tokens, whatever reads them.
     ensures lexed { Lexed text.now result }
 
@@ -27,13 +28,17 @@ pub fn lex(alloc: Global, text: &str) -> Result<List<Token>, LexFault>
     // Where the tokens stand, and that the text between the places of each one writes its kind.
     ensures order { IfOk result (AreInOrder 0 (length text.now)) }
     ensures each { IfOk result (All (IsTokenOf text.now)) }
+    ensures in_turn { IfOk result (AllByRecursion (IsTokenOf text.now)) }
+
+    // Each takes a byte or more.
+    ensures few { IfOk result (λ ts. length ts ≤ length text.now) }
 {
     read(alloc, text)
 }
 
 /// As `lex`, said of the reading of the characters.
 fn read(alloc: Global, text: &str) -> Result<List<Token>, LexFault>
-    requires { length text.now ≤ MAX_TEXT }
+    requires { length text.now ≤ 1048576 }
     ensures { MatchResult result (λ ts. tokens text.now ≡ Ok ts)
         (λ fault. fault ≢ LexFault.Memory → tokens text.now ≡ Err fault) }
 {

@@ -10,6 +10,6 @@ mod reader;
 mod token;
 
 pub use fault::LexFault;
-pub use laws::{one_lexing, some_lexing};
+pub use laws::{one_lexing, some_lexing, written_read_back};
 pub use lexer::{MAX_TEXT, lex};
 pub use token::{Kind, Mark, Token, Word};
