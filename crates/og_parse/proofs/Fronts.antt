@@ -1,29 +1,29 @@
 -- From the front of the tokens through the first that is too deep to all of them.
-use Rattle.std.proofs.Common.{◌≡◌, if◌then◌else◌, ℕ, suc, ◌+◌, ◌-◌, ◌<◌, ◌≤◌, Bool, true, false, List, [], ◌∷◌, length, take, map, Option, None, Some, Result, Ok, Err, inl, inr, refl, sym, ap, subst, arith}
-use Rattle.std.specs.Prelude.{All, nat_eq, slice_get, IsSomeAnd, MatchOption, IfSome}
-use Rattle.std.proofs.lemmas.Bool.{cases_lt, eqb-true, eq-eqb}
-use Rattle.std.proofs.lemmas.List.{take-map, take_all, take-take, length-take-le, length-map}
+use Rattle.std.proofs.Common.{◌≡◌, if◌then◌else◌, ℕ, suc, ◌+◌, ◌-◌, ◌<◌, ◌≤◌, Bool, true, false, List, [], ◌∷◌, length, take, Option, None, Some, Result, Ok, Err, inl, inr, refl, sym, subst, arith}
+use Rattle.std.specs.Prelude.{All, nat_eq, IfSome}
+use Rattle.std.proofs.lemmas.Bool.{eqb-true, eq-eqb}
+use Rattle.std.proofs.lemmas.List.{take-map, take-take, length-take-le, length-map}
 use Rattle.std.proofs.lemmas.List.Elements.{All-take}
-use Rattle.std.proofs.lemmas.Option.{slice_get_past}
 use Rattle.og_lex.specs.declared.token.Token.{Token}
 use Rattle.og_grammar.specs.Lexeme.{Lexeme, lexeme_of, lexemes_of}
 use Rattle.og_grammar.specs.declared.fault.Fault.{Fault}
 use Rattle.og_grammar.specs.declared.fault.Fault.TheVariants.{Memory, Syntax}
-use Rattle.og_grammar.specs.Rule.{Rule, spells, viable}
-use Rattle.og_grammar.specs.Reading.{fine, read, value_at_end}
+use Rattle.og_grammar.specs.Rule.{Rule, spells}
+use Rattle.og_grammar.specs.Reading.{fine}
 use Rattle.og_grammar.specs.Levels.{meaning}
-use Rattle.og_grammar.specs.Laws.{IsFaultAt, IsVerdict}
+use Rattle.og_grammar.specs.Laws.{IsFaultAt}
 use Rattle.og_grammar.proofs.EveryDepth.{unlimited, begins}
 use Rattle.og_grammar.proofs.Viable.{viable_spelled}
 use Rattle.og_grammar.proofs.Verdict.{IsExact-rule}
-use Rattle.og_syntax.specs.Deep.{IsDeep}
+use Rattle.og_syntax.specs.Deep.{IsDeep, NoneDeep, NoneDeepBefore, FindsDeep}
+use Rattle.og_syntax.proofs.Walks.{within}
 use Rattle.og_language.specs.Symbols.{symbols}
 use Rattle.og_language.specs.Begins.{tables}
-use Rattle.og_language.specs.Language.{language, in_room}
+use Rattle.og_language.specs.Language.{language}
 use Rattle.og_language.specs.laws.Fine.{language_fine}
 use Rattle.og_terms.specs.Rooms.{Reads}
 use Rattle.og_parse.specs.declared.faults.ParseFault.TheVariants as faults
-use Rattle.og_parse.specs.Parsed.{NoneDeepBefore, IsParsed, IsAtFault, through}
+use Rattle.og_parse.specs.Parsed.{IsAtFault, through}
 use Rattle.og_parse.specs.Whole.{whole_of, fault_of}
 
 -- ---- what a reading to the end comes to
@@ -56,13 +56,6 @@ told rule f text shown r rest is = told_at rule f (lexemes_of text shown) (lengt
 
 -- ---- the tokens through one
 
-pub within : (tokens : List Token) (k : ℕ) (P : Token → Type 0) → IsSomeAnd (slice_get tokens k) P → k < length tokens
-within tokens k P is =
-    elim (cases_lt k (length tokens)) [
-      | inl less ↦ less
-      | inr past ↦ absurd (subst (λ o. IsSomeAnd o P) (slice_get_past tokens k past) is)
-    ]
-
 -- a token that is there
 pub deep_within : (tokens : List Token) (k : ℕ) → IsDeep tokens k → k < length tokens
 deep_within tokens k is = within tokens k _ is
@@ -72,10 +65,7 @@ shown_lexemes text tokens k = sym (take-map (lexeme_of text) (suc k) tokens)
 
 -- ---- where no token is too deep
 
-abbrev Nowhere : List Token → Type 0
-Nowhere tokens = (j : ℕ) → IsDeep tokens j → ⊥
-
-pub fault_of_all : {A : Type 0} (rule : Rule symbols A) (text : List ℕ) (tokens : List Token) (fault : Fault) → Nowhere tokens
+pub fault_of_all : {A : Type 0} (rule : Rule symbols A) (text : List ℕ) (tokens : List Token) (fault : Fault) → NoneDeep tokens
     → Told rule (lexemes_of text tokens) (Err fault) → IsAtFault rule text tokens (fault_of fault (length tokens) None)
 fault_of_all rule text tokens Memory none is = tt
 fault_of_all rule text tokens (Syntax k) none is = (is, λ j less deep. none j deep)
@@ -136,11 +126,7 @@ fault_of_front rule text tokens d (Syntax k) is p = by_end (nat_eq k (length (ta
 
 -- ---- by what was found of deep tokens
 
-abbrev pub Found : List Token → Option ℕ → Type 0
-Found tokens deep =
-    MatchOption deep ((k : ℕ) → IsDeep tokens k → ⊥) (λ k. IsDeep tokens k × ((j : ℕ) → j < k → IsDeep tokens j → ⊥))
-
-pub found_within : (tokens : List Token) (deep : Option ℕ) → Found tokens deep → IfSome deep (λ k. k < length tokens)
+pub found_within : (tokens : List Token) (deep : Option ℕ) → FindsDeep tokens deep → IfSome deep (λ k. k < length tokens)
 found_within tokens None none = tt
 found_within tokens (Some k) found = deep_within tokens k found.0
 
@@ -148,7 +134,7 @@ pub tokens_shown : (P : Token → Type 0) (tokens : List Token) (deep : Option �
 tokens_shown P tokens None all = all
 tokens_shown P tokens (Some k) all = All-take P (suc k) tokens all
 
-pub fault_told : {A : Type 0} (rule : Rule symbols A) (text : List ℕ) (tokens : List Token) (deep : Option ℕ) (fault : Fault) → Found tokens deep
+pub fault_told : {A : Type 0} (rule : Rule symbols A) (text : List ℕ) (tokens : List Token) (deep : Option ℕ) (fault : Fault) → FindsDeep tokens deep
     → Told rule (lexemes_of text (through deep tokens)) (Err fault)
     → IsAtFault rule text tokens (fault_of fault (length (through deep tokens)) deep)
 fault_told rule text tokens None fault found is = fault_of_all rule text tokens fault found is

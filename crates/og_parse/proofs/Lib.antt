@@ -1,2 +1,3 @@
 pub mod Compositions
 pub mod Fronts
+pub mod OneAnswer

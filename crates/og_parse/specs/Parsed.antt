@@ -1,12 +1,12 @@
 -- What the reader of a whole text answers: the value that its tokens spell, or the first token at fault. At a fault of
 -- both kinds at one token, the grammar's comes first.
-use Rattle.std.specs.Prelude.{◌≡◌, ◌<◌, ℕ, suc, List, length, take, Option, None, Some, Result, Ok, Err}
+use Rattle.std.specs.Prelude.{◌≡◌, ℕ, suc, List, length, take, Option, None, Some, Result, Ok, Err}
 use Rattle.og_lex.specs.declared.token.Token.{Token}
-use Rattle.og_grammar.specs.Lexeme.{Lexeme, lexemes_of}
+use Rattle.og_grammar.specs.Lexeme.{lexemes_of}
 use Rattle.og_grammar.specs.Rule.{Rule, spells, viable}
 use Rattle.og_grammar.specs.Levels.{meaning}
 use Rattle.og_grammar.specs.Laws.{IsFaultAt}
-use Rattle.og_syntax.specs.Deep.{IsDeep}
+use Rattle.og_syntax.specs.Deep.{IsDeep, NoneDeep, NoneDeepBefore}
 use Rattle.og_syntax.specs.declared.declarations.Program.{Program}
 use Rattle.og_syntax.specs.declared.strategies.StrategyFile.{StrategyFile}
 use Rattle.og_language.specs.Symbols.{symbols}
@@ -15,14 +15,10 @@ use Rattle.og_language.specs.Grammar.{program, strategy}
 use Rattle.og_parse.specs.declared.faults.ParseFault.{ParseFault}
 use Rattle.og_parse.specs.declared.faults.ParseFault.TheVariants as faults
 
--- no token before that one is too deep
-abbrev pub NoneDeepBefore : List Token → ℕ → Type 0
-NoneDeepBefore tokens k = (j : ℕ) → j < k → IsDeep tokens j → ⊥
-
 -- They are spelled for the value, and none is too deep.
 abbrev pub IsParsed : {A : Type 0} → Rule symbols A → List ℕ → List Token → A → Type 0
 IsParsed rule text tokens a =
-    spells (meaning language) rule (lexemes_of text tokens) a × ((j : ℕ) → IsDeep tokens j → ⊥)
+    spells (meaning language) rule (lexemes_of text tokens) a × NoneDeep tokens
 
 -- The grammar's fault is at one token, and none before it is too deep; or one is the first that is too deep, and those
 -- through it may begin what is spelled.

@@ -10,7 +10,7 @@ use og_lex::Token;
 use og_syntax::{Program, StrategyFile, first_deep};
 use std::alloc::Global;
 
-/// Reads the tokens of a text as one program. At most one answer meets the clause, but for want of memory.
+/// Reads the tokens of a text as one program. There is at most one answer, by `one_program_answer`, but for want of memory.
 pub fn parse_program(alloc: Global, text: &str, tokens: &[Token]) -> Result<Program, ParseFault>
     requires tokens { All (IsTokenOf text.now) tokens.now }
     requires few { length tokens.now < 2 ^ 32 }
@@ -34,7 +34,8 @@ pub fn parse_program(alloc: Global, text: &str, tokens: &[Token]) -> Result<Prog
     }
 }
 
-/// Reads the tokens of a text as one strategy file. At most one answer meets the clause, but for want of memory.
+/// Reads the tokens of a text as one strategy file. There is at most one answer, by `one_strategy_answer`, but for want of
+/// memory.
 pub fn parse_strategy(
     alloc: Global,
     text: &str,

@@ -186,7 +186,7 @@ come_on tokens at t depth counts after made lt is size come p = record {
       (subst (λ o. IsSomeAnd o (λ u. IsDeepBehind (before tokens at) (role_of u.kind))) is deep));
 }
 
-within : (tokens : List Token) (k : ℕ) (P : Token → Type 0) → IsSomeAnd (slice_get tokens k) P → k < length tokens
+pub within : (tokens : List Token) (k : ℕ) (P : Token → Type 0) → IsSomeAnd (slice_get tokens k) P → k < length tokens
 within [] k P some = absurd some
 within (t ∷ tokens) zero P some = omega arith
 within (t ∷ tokens) (suc k) P some = let lt : k < length tokens = within tokens k P some in omega arith

@@ -4,7 +4,7 @@
 -- What stands before a token is told by a walk back from it. At a closing token the walk goes into that bracket, and
 -- it leaves it where that bracket opens; `inside` says in how many it is. What opens while it is in none is still open
 -- at the token. What stands before a closing token that closes nothing isn't met.
-use Rattle.std.specs.Prelude.{ℕ, zero, suc, ◌≤◌, Bool, true, false, List, [], ◌∷◌, take, reverse, count_by, slice_get, IsSomeAnd}
+use Rattle.std.specs.Prelude.{ℕ, zero, suc, ◌<◌, ◌≤◌, Bool, true, false, List, [], ◌∷◌, take, reverse, count_by, slice_get, Option, MatchOption, IsSomeAnd}
 use Rattle.og_lex.specs.declared.token.Token.{Token}
 use Rattle.og_lex.specs.declared.token.Kind.{Kind}
 use Rattle.og_lex.specs.declared.token.Kind.TheVariants as kinds
@@ -71,6 +71,20 @@ before tokens k = reverse (take k tokens)
 -- the k-th token is there, and is too deep
 abbrev pub IsDeep : List Token → ℕ → Type 0
 IsDeep tokens k = IsSomeAnd (slice_get tokens k) (λ t. IsDeepBehind (before tokens k) (role_of t.kind))
+
+-- ---- the first deep token
+
+-- no token is too deep
+abbrev pub NoneDeep : List Token → Type 0
+NoneDeep tokens = (j : ℕ) → IsDeep tokens j → ⊥
+
+-- no token before that one is too deep
+abbrev pub NoneDeepBefore : List Token → ℕ → Type 0
+NoneDeepBefore tokens k = (j : ℕ) → j < k → IsDeep tokens j → ⊥
+
+-- the first token that is too deep, where one is
+abbrev pub FindsDeep : List Token → Option ℕ → Type 0
+FindsDeep tokens found = MatchOption found (NoneDeep tokens) (λ k. IsDeep tokens k × NoneDeepBefore tokens k)
 
 -- ---- how many of the tokens open a bracket, and how many close one
 

@@ -1,5 +1,5 @@
-ghost use Rattle.std.specs.Prelude.{◌≡◌, ℕ, ◌<◌, ◌≤◌, ◌^◌, length, MatchOption};
-ghost use Rattle.og_syntax.specs.Deep.{IsDeep};
+ghost use Rattle.std.specs.Prelude.{◌≡◌, ◌<◌, ◌≤◌, ◌^◌, length, MatchOption};
+ghost use Rattle.og_syntax.specs.Deep.{FindsDeep};
 ghost use Rattle.og_syntax.specs.Counts.{IsFull, Passes};
 
 use og_lex::{Kind, Mark, Token, Word};
@@ -47,9 +47,7 @@ impl Role {
 /// operator of a game expression outside inner brackets. In 65 times `(` it is the last, 64.
 pub fn first_deep(tokens: &[Token]) -> Option<u32>
     requires { length tokens.now < 2 ^ 32 }
-    ensures { MatchOption result
-        ((k : ℕ) → IsDeep tokens.now k → ⊥)
-        (λ k. IsDeep tokens.now k × ((j : ℕ) → j < k → IsDeep tokens.now j → ⊥)) }
+    ensures { FindsDeep tokens.now result }
 {
     // the operators of each game expression that isn't over, the outermost first
     let mut counts = [0; MOST_OPEN + 1];

@@ -1,11 +1,10 @@
-use Rattle.std.proofs.Common.{◌≡◌, Option, None, Some, Ok, Err, length, refl, subst, sym}
+use Rattle.std.proofs.Common.{None, Some, Ok, Err, length, refl, subst, sym}
 use Rattle.og_lex.specs.Spelling.{IsTokenOf}
-use Rattle.og_grammar.specs.declared.fault.Fault.{Fault}
 use Rattle.og_language.specs.Grammar.{program}
 use Rattle.og_language.specs.laws.Fine.{program_led}
 use Rattle.og_parse.specs.Parsed.{IsAtFault}
 use Rattle.og_parse.specs.Whole.{fault_of}
-use Rattle.og_parse.proofs.Fronts.{tokens_shown, told_by, deep_spelled, fault_told, IsFirst}
+use Rattle.og_parse.proofs.Fronts.{tokens_shown, told_by, deep_spelled, fault_told}
 use Rattle.og_parse.proofs.parse.parse_program.Goals as goal
 
 pub new-rest-requires : goal.new-rest-requires
