@@ -8,6 +8,8 @@ mod readers;
 #[cfg(test)]
 mod small_games;
 #[cfg(test)]
+mod texts;
+#[cfg(test)]
 mod tokens;
 #[cfg(test)]
 mod told;

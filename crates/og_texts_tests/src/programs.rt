@@ -143,6 +143,12 @@ fn programs(rt: HostRuntime) {
         let mut told = String::new(rt.alloc());
         tell_program(&rt, rt.alloc(), text, &mut told);
         check_told(&rt, text, told.as_str(), want);
+        // What is printed is read back, and printed so again.
+        if want.ends_with('\n') {
+            let mut again = String::new(rt.alloc());
+            tell_program(&rt, rt.alloc(), want, &mut again);
+            check_told(&rt, want, again.as_str(), want);
+        }
     }
 }
 
@@ -164,6 +170,12 @@ fn strategy_files(rt: HostRuntime) {
         let mut told = String::new(rt.alloc());
         tell_strategy(&rt, rt.alloc(), text, &mut told);
         check_told(&rt, text, told.as_str(), want);
+        // What is printed is read back, and printed so again.
+        if want.ends_with('\n') {
+            let mut again = String::new(rt.alloc());
+            tell_strategy(&rt, rt.alloc(), want, &mut again);
+            check_told(&rt, want, again.as_str(), want);
+        }
     }
 }
 

@@ -6,7 +6,10 @@ use crate::told::{check_told, tell};
 use og_canonical::{print_program, print_strategy};
 use og_grammar::{Fault, Tokens};
 use og_language::{one_program, one_program_verdict, one_strategy_file, one_strategy_verdict};
+use og_lex::written_read_back;
 use og_list::{List, Text};
+use og_parse::{one_program_answer, one_strategy_answer};
+use og_reread::{programs_of_texts, programs_read_back, strategies_of_texts, strategies_read_back};
 use og_syntax::{
     Decl, ExprTree, NameTree, Program, RowTree, Section, StrategyFile, TyTree, first_deep, laws,
 };
@@ -195,5 +198,16 @@ fn laws_of_the_language() {
     one_program_verdict();
     one_strategy_file();
     one_strategy_verdict();
+    one_program_answer();
+    one_strategy_answer();
     laws::without_places();
+}
+
+#[test]
+fn laws_of_canonical_texts() {
+    written_read_back();
+    programs_of_texts();
+    programs_read_back();
+    strategies_of_texts();
+    strategies_read_back();
 }

@@ -1,6 +1,7 @@
 pub mod HalvesMeet
+pub mod LongTexts
 pub mod TokenOrder
-pub mod PlainTexts
+pub mod OneRow
 pub mod OneTree
 pub mod OneAnswer
 pub mod OneAnswerToWords

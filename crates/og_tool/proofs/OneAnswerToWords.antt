@@ -8,7 +8,7 @@ use Rattle.og_io.specs.Outside.{FilesState, GrowsBy, IsUnmoved}
 use Rattle.og_tool.specs.declared.answer.Answer.{Answer}
 use Rattle.og_tool.specs.Command.{Command}
 use Rattle.og_tool.specs.Held.{MayHold}
-use Rattle.og_tool.specs.Answer.{Answers, AcceptsGame}
+use Rattle.og_tool.specs.Answer.{Answers, RefusesGame, AcceptsGame}
 use Rattle.og_tool.specs.Ran.{AnswersWords, TellsTexts}
 use Rattle.og_tool.proofs.OneAnswer.{same_refusal}
 
@@ -45,7 +45,9 @@ module _ (one_answer : (game strategy : List ℕ) (one other : Answer) → Answe
   one_to_command told (inl a) (inr (inr (inl b))) = absurd (one_or_two command.game command.strategy before.loads after.loads a.fails.loads b.fails.loads)
   one_to_command told (inl a) (inr (inr (inr b))) = absurd (one_or_two command.game command.strategy before.loads after.loads a.fails.loads b.reads.loads)
   one_to_command told (inr (inl a)) (inl b) = absurd (rose_or_stayed command.game before.faults after.faults b.fails.one_fault a.reads.no_fault)
-  one_to_command told (inr (inl a)) (inr (inl b)) = same_refusal _ _ one other a.refuses.refusal b.refuses.refusal
+  one_to_command told (inr (inl a)) (inr (inl b)) =
+      let same = told_text (before.held command.game) a.game b.game told.0 a.game_held b.game_held in
+      one_answer a.game [] one other (inl a.refuses) (inl (subst (λ (text : List ℕ). RefusesGame text other) (sym same) b.refuses))
   one_to_command told (inr (inl a)) (inr (inr (inl b))) = absurd (one_or_two command.game command.strategy before.loads after.loads a.reads.loads b.fails.loads)
   one_to_command told (inr (inl a)) (inr (inr (inr b))) = absurd (one_or_two command.game command.strategy before.loads after.loads a.reads.loads b.reads.loads)
   one_to_command told (inr (inr (inl a))) (inl b) = absurd (one_or_two command.game command.strategy before.loads after.loads b.fails.loads a.fails.loads)

@@ -1,15 +1,21 @@
 -- What is answered: the line of a refusal, or the report on a game under a strategy.
-use Rattle.std.specs.Prelude.{◌≡◌, ◌↔◌, ◌⊎◌, ℕ, List, [], ◌∷◌, ◌++◌, length, ◌==◌, if◌then◌else◌, codes}
+use Rattle.std.specs.Prelude.{◌≡◌, ◌↔◌, ◌⊎◌, ℕ, List, [], ◌∷◌, ◌++◌, length, ◌==◌, if◌then◌else◌, codes, decimal}
+use Rattle.og_parse.specs.Parsed.{ParsesProgram, ParsesStrategy}
+use Rattle.og_texts.specs.declared.fault.TextFault.{TextFault}
+use Rattle.og_texts.specs.Faults.{code_of, place_of}
+use Rattle.og_texts.specs.Places.{line_of, column_of}
+use Rattle.og_texts.specs.Texts.{HasFault, IsStrategyFile}
 use Rattle.og_small.specs.declared.tree.SmallGame.{SmallGame}
 use Rattle.og_small.specs.declared.tree.Section.{Section}
 use Rattle.og_small.specs.Accepted.{Fits}
 use Rattle.og_small.specs.Meaning.{choices_of, deviations}
 use Rattle.og_small.specs.Equilibrium.{IsEquilibrium}
 use Rattle.og_small.specs.Report.{report}
+use Rattle.og_syntax.specs.declared.strategies.StrategyFile.{StrategyFile}
 use Rattle.og_tool.specs.declared.status.Status.{Status}
 use Rattle.og_tool.specs.declared.status.Status.TheVariants as ends
 use Rattle.og_tool.specs.declared.answer.Answer.{Answer}
-use Rattle.og_tool.specs.Texts.{IsGame, IsStrategy}
+use Rattle.og_tool.specs.Texts.{IsGame, IsNoGame, IsStrategy}
 
 -- An answer has the bytes to write, and the status to end with where all of them are written.
 
@@ -18,13 +24,40 @@ pub record IsRefusal (end : Status) (why : List ℕ) (answer : Answer) : Type 0 
   pub status : answer.status ≡ end
   pub bytes : answer.bytes ≡ codes "refused " ++ (why ++ 10 ∷ [])
 
--- The game's text is no small game.
-pub record RefusesGame (game : List ℕ) (answer : Answer) : Type 0 where
-  pub cause : (tree : SmallGame) → IsGame game tree → ⊥
+-- what refuses the text for a fault: which text it is, the fault's name, its line and its column
+abbrev pub fault_at : List ℕ → List ℕ → TextFault → List ℕ
+fault_at which text fault =
+    which ++ (codes " " ++ (code_of fault ++ (codes " at " ++ (decimal (line_of text (place_of fault))
+    ++ (codes ":" ++ decimal (column_of text (place_of fault)))))))
+
+-- ---- games
+
+-- The game's text has a fault.
+pub record RefusesFaultyGame (game : List ℕ) (answer : Answer) : Type 0 where
+  pub fault : TextFault
+  pub cause : HasFault ParsesProgram game fault
+  pub refusal : IsRefusal ends.GameText (fault_at (codes "game") game fault) answer
+
+-- The game's text is a program, and no small game.
+pub record RefusesUnbuiltGame (game : List ℕ) (answer : Answer) : Type 0 where
+  pub cause : IsNoGame game
   pub refusal : IsRefusal ends.GameText (codes "game NotBuilt at 1:1") answer
 
--- The strategy's text is no small strategy that fits the game.
-pub record RefusesStrategy (tree : SmallGame) (strategy : List ℕ) (answer : Answer) : Type 0 where
+abbrev pub RefusesGame : List ℕ → Answer → Type 0
+RefusesGame game answer = RefusesFaultyGame game answer ⊎ RefusesUnbuiltGame game answer
+
+-- ---- strategies, behind an accepted game
+
+-- The strategy's text has a fault.
+pub record RefusesFaultyStrategy (strategy : List ℕ) (answer : Answer) : Type 0 where
+  pub fault : TextFault
+  pub cause : HasFault ParsesStrategy strategy fault
+  pub refusal : IsRefusal ends.StrategyText (fault_at (codes "strategy") strategy fault) answer
+
+-- The strategy's text is a strategy file, and no small strategy that fits the game.
+pub record RefusesUnbuiltStrategy (tree : SmallGame) (strategy : List ℕ) (answer : Answer) : Type 0 where
+  pub file : StrategyFile
+  pub is_file : IsStrategyFile strategy file
   pub cause : (sections : List Section) → IsStrategy strategy sections → Fits tree sections → ⊥
   pub refusal : IsRefusal ends.StrategyText (codes "strategy NotBuilt at 1:1") answer
 
@@ -44,7 +77,8 @@ pub record Reports (tree : SmallGame) (strategy : List ℕ) (answer : Answer) : 
 
 -- what a strategy's text is answered with, behind an accepted game
 abbrev pub AnswersStrategy : SmallGame → List ℕ → Answer → Type 0
-AnswersStrategy tree strategy answer = RefusesStrategy tree strategy answer ⊎ Reports tree strategy answer
+AnswersStrategy tree strategy answer =
+    RefusesFaultyStrategy strategy answer ⊎ RefusesUnbuiltStrategy tree strategy answer ⊎ Reports tree strategy answer
 
 -- The game's text is a small game, and the strategy's text is answered.
 pub record AcceptsGame (game strategy : List ℕ) (answer : Answer) : Type 0 where

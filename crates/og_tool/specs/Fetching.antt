@@ -4,7 +4,7 @@ use Rattle.og_io.specs.Outside.{FilesState}
 use Rattle.og_tool.specs.declared.fetch.Fetched.{Fetched}
 use Rattle.og_tool.specs.declared.fetch.Fetched.TheVariants.{Text, TooLong, Failed}
 use Rattle.og_tool.specs.Held.{MayHold, HeldHas}
-use Rattle.og_tool.specs.Texts.{longest_text}
+use Rattle.og_texts.specs.Texts.{longest_text}
 use Rattle.og_tool.specs.Ran.{ReadsAll, FailsAt}
 
 abbrev pub Fetches : List ℕ → FilesState → FilesState → Fetched → Type 0

@@ -8,8 +8,13 @@ use Rattle.og_tool.specs.declared.answer.GameStep.{GameStep}
 use Rattle.og_tool.specs.declared.answer.GameStep.TheVariants.{Accepted, Refused}
 use Rattle.og_tool.specs.Held.{HeldHas}
 use Rattle.og_tool.specs.Texts.{IsGame}
-use Rattle.og_tool.specs.Answer.{IsRefusal, AnswersStrategy}
+use Rattle.og_tool.specs.Answer.{IsRefusal, RefusesGame, AnswersStrategy}
 use Rattle.og_tool.specs.Ran.{ReadsAll, FailsAt, StopsAtGame, MissesGame}
+
+-- what the text of a game comes to
+abbrev pub TellsGame : List ℕ → GameStep → Type 0
+TellsGame text (Accepted tree) = IsGame text tree
+TellsGame text (Refused answer) = RefusesGame text answer
 
 abbrev pub StepsToGame : List ℕ → FilesState → FilesState → GameStep → Type 0
 StepsToGame file before after (Accepted tree) =

@@ -1,17 +1,18 @@
 -- Which texts are small games and small strategies.
-use Rattle.std.specs.Prelude.{◌≡◌, ℕ, ◌≤◌, nat_lt, Bool, true, ◌&&◌, Option, MatchOption, IfSome, All, List, [], ◌∷◌, length, drop, slice_range}
+use Rattle.std.specs.Prelude.{◌≡◌, ◌≢◌, ℕ, nat_lt, Bool, true, ◌&&◌, Option, None, Some, MatchOption, List, [], ◌∷◌, drop, slice_range, Result, Ok, Err}
 use Rattle.std.specs.List.{list_all}
 use Rattle.og_lex.specs.declared.token.Token.{Token}
 use Rattle.og_lex.specs.Characters.{is_blank}
-use Rattle.og_lex.specs.Spelling.{AreTokens}
+use Rattle.og_syntax.specs.declared.declarations.Program.{Program}
+use Rattle.og_syntax.specs.declared.strategies.StrategyFile.{StrategyFile}
+use Rattle.og_parse.specs.Parsed.{ParsesProgram, ParsesStrategy}
+use Rattle.og_texts.specs.declared.fault.TextFault.{TextFault}
+use Rattle.og_texts.specs.declared.fault.TextFault.TheVariants as faults
+use Rattle.og_texts.specs.Texts.{IsProgram, IsStrategyFile, HasFault}
 use Rattle.og_small.specs.declared.tree.SmallGame.{SmallGame}
 use Rattle.og_small.specs.declared.tree.Section.{Section}
 use Rattle.og_small.specs.Accepted.{IsAccepted}
 use Rattle.og_read.specs.Spelled.{SpellsGame, SpellsStrategy}
-
--- how many bytes a text has at the most: 1 MiB
-abbrev pub longest_text : ℕ
-longest_text = 1048576
 
 -- From a place on, only blanks stand round the tokens.
 abbrev pub are_gaps_blank : List ℕ → ℕ → List Token → Bool
@@ -22,38 +23,61 @@ are_gaps_blank text place (t ∷ ts) =
 abbrev pub is_ascii : List ℕ → Bool
 is_ascii text = list_all (λ byte. nat_lt byte 128) text
 
--- A text that isn't too long, of ASCII and with no comment, and its tokens.
-pub record IsPlain (text : List ℕ) (ts : List Token) : Type 0 where
-  pub short : length text ≤ longest_text
-  pub ascii : is_ascii text ≡ true
-  pub tokens : AreTokens text ts
-  pub no_comment : are_gaps_blank text 0 ts ≡ true
+-- A text with these tokens is of ASCII and has no comment.
+abbrev pub is_plain : List ℕ → List Token → Bool
+is_plain text ts = is_ascii text && are_gaps_blank text 0 ts
 
--- The text is plain, its tokens spell this small game, and that is accepted.
-pub record IsGame (text : List ℕ) (tree : SmallGame) : Type 0 where
-  pub tokens : List Token
-  pub plain : IsPlain text tokens
-  pub spelled : SpellsGame text tokens tree
+-- The text with these tokens is plain, they spell this small game, and that is accepted.
+pub record IsSmallGame (text : List ℕ) (ts : List Token) (tree : SmallGame) : Type 0 where
+  pub plain : is_plain text ts ≡ true
+  pub spelled : SpellsGame text ts tree
   pub accepted : IsAccepted tree
 
--- The text is plain, and its tokens spell these sections.
+-- The text with these tokens is plain, and they spell these sections.
+pub record IsSmallStrategy (text : List ℕ) (ts : List Token) (sections : List Section) : Type 0 where
+  pub plain : is_plain text ts ≡ true
+  pub spelled : SpellsStrategy text ts sections
+
+-- The text is a program that is this small game.
+pub record IsGame (text : List ℕ) (tree : SmallGame) : Type 0 where
+  pub program : Program
+  pub is_program : IsProgram text program
+  pub is_small : IsSmallGame text is_program.tokens tree
+
+-- The text is a strategy file that is this small strategy.
 pub record IsStrategy (text : List ℕ) (sections : List Section) : Type 0 where
-  pub tokens : List Token
-  pub plain : IsPlain text tokens
-  pub spelled : SpellsStrategy text tokens sections
+  pub file : StrategyFile
+  pub is_file : IsStrategyFile text file
+  pub is_small : IsSmallStrategy text is_file.tokens sections
 
--- what is found, each of which has the property
-abbrev pub IfEach : {A : Type 0} → (A → Type 0) → Option (List A) → Type 0
-IfEach holds found = IfSome found (All holds)
+-- The text is a program, and no small game that is accepted.
+pub record IsNoGame (text : List ℕ) : Type 0 where
+  pub program : Program
+  pub is_program : IsProgram text program
+  pub none : (tree : SmallGame) → IsGame text tree → ⊥
 
--- A reader answers the tokens of a plain text, the small game or the sections of the text, or that
--- there are none.
-abbrev pub ReadsPlain : List ℕ → Option (List Token) → Type 0
-ReadsPlain text found = MatchOption found ((ts : List Token) → IsPlain text ts → ⊥) (IsPlain text)
+-- The text is a strategy file, and no small strategy.
+pub record IsNoStrategy (text : List ℕ) : Type 0 where
+  pub file : StrategyFile
+  pub is_file : IsStrategyFile text file
+  pub none : (sections : List Section) → IsStrategy text sections → ⊥
 
-abbrev pub ReadsGame : List ℕ → Option SmallGame → Type 0
-ReadsGame text found = MatchOption found ((tree : SmallGame) → IsGame text tree → ⊥) (IsGame text)
+-- ---- what readers answer
 
-abbrev pub ReadsStrategy : List ℕ → Option (List Section) → Type 0
-ReadsStrategy text found =
-    MatchOption found ((sections : List Section) → IsStrategy text sections → ⊥) (IsStrategy text)
+abbrev pub FindsGame : List ℕ → List Token → Option SmallGame → Type 0
+FindsGame text ts found =
+    MatchOption found ((tree : SmallGame) → IsSmallGame text ts tree → ⊥) (IsSmallGame text ts)
+
+abbrev pub FindsStrategy : List ℕ → List Token → Option (List Section) → Type 0
+FindsStrategy text ts found =
+    MatchOption found ((sections : List Section) → IsSmallStrategy text ts sections → ⊥) (IsSmallStrategy text ts)
+
+abbrev pub ReadsGame : List ℕ → Result (Option SmallGame) TextFault → Type 0
+ReadsGame text (Ok (Some tree)) = IsGame text tree
+ReadsGame text (Ok None) = IsNoGame text
+ReadsGame text (Err fault) = fault ≢ faults.Memory → HasFault ParsesProgram text fault
+
+abbrev pub ReadsStrategy : List ℕ → Result (Option (List Section)) TextFault → Type 0
+ReadsStrategy text (Ok (Some sections)) = IsStrategy text sections
+ReadsStrategy text (Ok None) = IsNoStrategy text
+ReadsStrategy text (Err fault) = fault ≢ faults.Memory → HasFault ParsesStrategy text fault

@@ -1,4 +1,4 @@
-ghost use Rattle.std.specs.Prelude.{◌≡◌, ◌↔◌, [], ◌∷◌, Some, IfOk, codes, map, string_bytes};
+ghost use Rattle.std.specs.Prelude.{◌≡◌, ◌↔◌, [], ◌∷◌, Some, IfOk, map, string_bytes};
 ghost use Rattle.og_io.specs.Outside.{OnlyLoads};
 ghost use Rattle.og_small.specs.Meaning.{choices_of};
 ghost use Rattle.og_small.specs.Equilibrium.{IsEquilibrium};
@@ -6,15 +6,17 @@ ghost use Rattle.og_small.specs.Report.{report};
 ghost use Rattle.og_tool.specs.Command.{command_of, files_of};
 ghost use Rattle.og_tool.specs.Answer.{AnswersStrategy, verdict_of};
 ghost use Rattle.og_tool.specs.Ran.{AnswersWords};
-ghost use Rattle.og_tool.specs.Halves.{StepsToGame, StepsToStrategy};
+ghost use Rattle.og_tool.specs.Halves.{TellsGame, StepsToGame, StepsToStrategy};
 
 use crate::Status;
 use crate::command::command_of;
 use crate::fetch::{Fetched, fetch};
 use crate::read::{game_of, one_small_strategy, strategy_of};
+use crate::refusal::{line, refuse};
 use og_io::Files;
 use og_list::List;
 use og_small::{Section, SmallGame, fits, fitting_strategies, report_on};
+use og_texts::TextFault;
 use std::alloc::{AllocError, Global};
 
 /// What to write, and the status to end with.
@@ -31,13 +33,17 @@ enum GameStep {
     Refused(Answer),
 }
 
-/// An answer of one line.
-fn line(alloc: Global, status: Status, line: &[u8]) -> Result<Answer, AllocError>
-    ensures ends { IfOk result (λ a. a.status ≡ status) }
-    ensures writes { IfOk result (λ a. a.bytes ≡ line.now) }
+/// What the text of a game comes to.
+fn answer_game(alloc: Global, text: &[u8]) -> Result<GameStep, AllocError>
+    ensures { IfOk result (TellsGame text.now) }
 {
-    let bytes = List::from_slice(alloc, line)?;
-    Ok(Answer { status, bytes })
+    let unbuilt = b"refused game NotBuilt at 1:1\n".as_slice();
+    match game_of(alloc, text) {
+        Ok(Some(tree)) => Ok(GameStep::Accepted(tree)),
+        Ok(None) => Ok(GameStep::Refused(line(alloc, Status::GameText, unbuilt)?)),
+        Err(TextFault::Memory) => Err(AllocError),
+        Err(fault) => Ok(GameStep::Refused(refuse(alloc, Status::GameText, "game", text, fault)?)),
+    }
 }
 
 /// Reads the game's file, and its text.
@@ -45,14 +51,11 @@ fn step_to_game<F: Files>(alloc: Global, file: &str, files: &mut F) -> Result<Ga
     ensures only { OnlyLoads (file.now ∷ []) (F.state files.old) (F.state files.new) }
     ensures steps { IfOk result (StepsToGame file.now (F.state files.old) (F.state files.new)) }
 {
-    let bad = b"refused game NotBuilt at 1:1\n".as_slice();
+    let long = b"refused game TooLong at 1:1\n".as_slice();
     let missed = b"refused read game\n".as_slice();
     match fetch(alloc, file, files)? {
-        Fetched::Text(text) => match game_of(alloc, text.as_slice())? {
-            Some(tree) => Ok(GameStep::Accepted(tree)),
-            None => Ok(GameStep::Refused(line(alloc, Status::GameText, bad)?)),
-        },
-        Fetched::TooLong => Ok(GameStep::Refused(line(alloc, Status::GameText, bad)?)),
+        Fetched::Text(text) => Ok(answer_game(alloc, text.as_slice())?),
+        Fetched::TooLong => Ok(GameStep::Refused(line(alloc, Status::GameText, long)?)),
         Fetched::Failed => Ok(GameStep::Refused(line(alloc, Status::ReadFault, missed)?)),
     }
 }
@@ -82,17 +85,19 @@ fn judge(alloc: Global, tree: &SmallGame, text: &[u8]) -> Result<Answer, AllocEr
 {
     one_small_strategy();
     fitting_strategies();
-    let bad = b"refused strategy NotBuilt at 1:1\n".as_slice();
-    match strategy_of(alloc, text)? {
-        Some(sections) => {
+    let unbuilt = b"refused strategy NotBuilt at 1:1\n".as_slice();
+    match strategy_of(alloc, text) {
+        Ok(Some(sections)) => {
             let suits = fits(tree, sections.as_slice());
             if suits {
                 Ok(reported(alloc, tree, sections.as_slice())?)
             } else {
-                Ok(line(alloc, Status::StrategyText, bad)?)
+                Ok(line(alloc, Status::StrategyText, unbuilt)?)
             }
         }
-        None => Ok(line(alloc, Status::StrategyText, bad)?),
+        Ok(None) => Ok(line(alloc, Status::StrategyText, unbuilt)?),
+        Err(TextFault::Memory) => Err(AllocError),
+        Err(fault) => Ok(refuse(alloc, Status::StrategyText, "strategy", text, fault)?),
     }
 }
 
@@ -106,11 +111,11 @@ fn step_to_strategy<F: Files>(
     ensures only { OnlyLoads (file.now ∷ []) (F.state files.old) (F.state files.new) }
     ensures steps { IfOk result (StepsToStrategy tree.now file.now (F.state files.old) (F.state files.new)) }
 {
-    let bad = b"refused strategy NotBuilt at 1:1\n".as_slice();
+    let long = b"refused strategy TooLong at 1:1\n".as_slice();
     let missed = b"refused read strategy\n".as_slice();
     match fetch(alloc, file, files)? {
         Fetched::Text(text) => Ok(judge(alloc, tree, text.as_slice())?),
-        Fetched::TooLong => Ok(line(alloc, Status::StrategyText, bad)?),
+        Fetched::TooLong => Ok(line(alloc, Status::StrategyText, long)?),
         Fetched::Failed => Ok(line(alloc, Status::ReadFault, missed)?),
     }
 }

@@ -9,6 +9,7 @@ ghost use Rattle.og_tool.specs.Command.{Command};
 ghost use Rattle.og_tool.specs.Ran.{AnswersWords, TellsTexts};
 
 use crate::read::{one_small_game, one_small_strategy};
+use og_texts::{one_program_text, one_strategy_text};
 
 /// Two texts have at most one answer: one status, and one list of bytes.
 pub fn one_answer()
@@ -17,6 +18,8 @@ pub fn one_answer()
 {
     one_small_game();
     one_small_strategy();
+    one_program_text();
+    one_strategy_text();
 }
 
 /// Where the texts are told, the words have at most one answer between two states of the files: the

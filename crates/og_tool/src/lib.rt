@@ -7,6 +7,7 @@ mod fetch;
 mod laws;
 mod plain;
 mod read;
+mod refusal;
 mod status;
 mod top;
 

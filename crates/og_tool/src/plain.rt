@@ -1,14 +1,10 @@
-ghost use Rattle.std.specs.Prelude.{◌≡◌, ◌≤◌, ◌<◌, List, ℕ, length, true, false, IfSome, IfNone, IfOk, slice_range};
+ghost use Rattle.std.specs.Prelude.{◌≡◌, ◌≤◌, length, slice_range};
 ghost use Rattle.std.specs.List.{list_all};
-ghost use Rattle.og_lex.specs.declared.token.Token.{Token};
 ghost use Rattle.og_lex.specs.Characters.{is_blank};
-ghost use Rattle.og_lex.specs.Spelling.{AreInOrder, IsTokenOf};
-ghost use Rattle.og_tool.specs.Texts.{longest_text, are_gaps_blank, is_ascii, IfEach, IsPlain, ReadsPlain};
+ghost use Rattle.og_lex.specs.Spelling.{AreInOrder};
+ghost use Rattle.og_tool.specs.Texts.{are_gaps_blank, is_ascii, is_plain};
 
-use og_lex::{LexFault, MAX_TEXT, Token, lex, one_lexing};
-use og_list::List;
-use std::alloc::{AllocError, Global};
-use std::str;
+use og_lex::Token;
 
 /// Whether all bytes are blanks.
 fn are_blank(bytes: &[u8]) -> bool
@@ -49,37 +45,10 @@ fn are_gaps_blank(text: &[u8], tokens: &[Token]) -> bool
     are_blank(&text[place as usize..])
 }
 
-/// The text of ASCII bytes, or None where a byte isn't ASCII or there are too many.
-pub(crate) fn ascii_text(bytes: &[u8]) -> Option<&str>
-    ensures some { IfSome result (λ text. (text.now ≡ bytes.now)
-        × (length bytes.now ≤ longest_text) × (is_ascii bytes.now ≡ true)) }
-    ensures none { IfNone result ((length bytes.now ≤ longest_text) → is_ascii bytes.now ≡ false) }
+/// Whether the text with these tokens is of ASCII and has no comment.
+pub(crate) fn is_plain(text: &[u8], tokens: &[Token]) -> bool
+    requires { AreInOrder 0 (length text.now) tokens.now }
+    ensures { result ≡ is_plain text.now tokens.now }
 {
-    if bytes.len() > MAX_TEXT || !is_ascii(bytes) {
-        return None;
-    }
-    match str::from_utf8(bytes) {
-        Ok(text) => Some(text),
-        Err(_) => None,
-    }
-}
-
-/// The tokens of the text, if it is plain: with no comment.
-pub(crate) fn plain_tokens(alloc: Global, text: &str) -> Result<Option<List<Token>>, AllocError>
-    requires short { length text.now ≤ longest_text }
-    requires ascii { is_ascii text.now ≡ true }
-    ensures read { IfOk result (ReadsPlain text.now) }
-    ensures each { IfOk result (IfEach (IsTokenOf text.now)) }
-{
-    one_lexing();
-    match lex(alloc, text) {
-        Ok(tokens) => {
-            let is_plain = are_gaps_blank(text.as_bytes(), tokens.as_slice());
-            if is_plain { Ok(Some(tokens)) } else { Ok(None) }
-        }
-        Err(fault) => match fault {
-            LexFault::Memory => Err(AllocError),
-            _ => Ok(None),
-        },
-    }
+    is_ascii(text) && are_gaps_blank(text, tokens)
 }

@@ -104,9 +104,9 @@ fn check(rt: &impl Abort, alloc: Global, case: &Case<'_>) {
 
 const EMPTY: &str = "game main = block { :---: :---: };\n";
 
-const BAD_GAME: &str = "refused game NotBuilt at 1:1\n";
+const UNBUILT_GAME: &str = "refused game NotBuilt at 1:1\n";
 
-const BAD_STRATEGY: &str = "refused strategy NotBuilt at 1:1\n";
+const UNBUILT_STRATEGY: &str = "refused strategy NotBuilt at 1:1\n";
 
 /// The prisoner's dilemma with every field written out.
 const PRISONERS: &str = "type Move = { Cooperate, Defect };
@@ -271,30 +271,89 @@ const PENNIES: &str = "type Side = { Heads, Tails }; game main = block { :-----:
   operation : dependentDecision \"odd\" [] Side ; outputs : y ; returns : if x == y then -1 else 1 end ;
 :-----: };";
 
-const REFUSED_GAMES: &[&str] = &[
-    "",
-    PENNIES,
-    "// a comment\ngame main = block { :---: :---: };",
-    "game main = block { :--: :---: };",
-    "game main = block { :---: :---: }",
-    "game main = block { :---: :---: }; ;",
-    "game other = block { :---: :---: };",
-    "game main = block { :---: :---: }; \u{e9}",
-    "type A = { main }; game main = block { :---: :---: };",
-    "type A = { B, B }; game main = block { :---: :---: };",
-    "type A = { B, C, D, E, F, G, H, I, J }; game main = block { :---: :---: };",
-    "type A = { B }; game main = block { :---: operation : dependentDecision \"a\" [] A ; outputs : x ; returns : table (x : A) { (B) -> 9223372036854775808; } ; :---: };",
-    "type A = { B }; game main = block { :---: operation : dependentDecision \"a\" [] C ; outputs : x ; returns : table (x : A) { (B) -> 1; } ; :---: };",
-    "type A = { B, C }; game main = block { :---: operation : dependentDecision \"a\" [] A ; outputs : x ; returns : table (x : A) { (B) -> 1; } ; :---: };",
-    "type A = { B }; game main = block { :---: operation : dependentDecision \"a\" [] A ; outputs : x ; returns : table (y : A) { (B) -> 1; } ; :---: };",
+/// Games that are refused, with the line that says why.
+const REFUSED_GAMES: &[(&str, &str)] = &[
+    // Programs that are no small game.
+    ("", UNBUILT_GAME),
+    (PENNIES, UNBUILT_GAME),
+    (
+        "// a comment\ngame main = block { :---: :---: };",
+        UNBUILT_GAME,
+    ),
+    ("game other = block { :---: :---: };", UNBUILT_GAME),
+    (
+        "game main = block { :---: :---: }; type \u{e9} = bool;",
+        UNBUILT_GAME,
+    ),
+    (
+        "type A = { main }; game main = block { :---: :---: };",
+        UNBUILT_GAME,
+    ),
+    (
+        "type A = { B, B }; game main = block { :---: :---: };",
+        UNBUILT_GAME,
+    ),
+    (
+        "type A = { B, C, D, E, F, G, H, I, J }; game main = block { :---: :---: };",
+        UNBUILT_GAME,
+    ),
+    (
+        "type A = { B }; game main = block { :---: operation : dependentDecision \"a\" [] C ; outputs : x ; returns : table (x : A) { (B) -> 1; } ; :---: };",
+        UNBUILT_GAME,
+    ),
+    (
+        "type A = { B, C }; game main = block { :---: operation : dependentDecision \"a\" [] A ; outputs : x ; returns : table (x : A) { (B) -> 1; } ; :---: };",
+        UNBUILT_GAME,
+    ),
+    (
+        "type A = { B }; game main = block { :---: operation : dependentDecision \"a\" [] A ; outputs : x ; returns : table (y : A) { (B) -> 1; } ; :---: };",
+        UNBUILT_GAME,
+    ),
+    (
+        "version 2; game main = block { :---: :---: };",
+        UNBUILT_GAME,
+    ),
+    // Texts that are no program.
+    (
+        "game main = block { :--: :---: };",
+        "refused game Syntax at 1:21\n",
+    ),
+    (
+        "game main = block { :---:\n:---: }",
+        "refused game Syntax at 2:8\n",
+    ),
+    (
+        "game main = block { :---: :---: };\n ;",
+        "refused game Syntax at 2:2\n",
+    ),
+    (
+        "game main = block { :---: :---: }; \u{e9} $",
+        "refused game BadChar at 1:39\n",
+    ),
+    (
+        "game main = block { :---: :---: };\n\"",
+        "refused game OpenText at 2:1\n",
+    ),
+    (
+        "type A = { B }; game main = block { :---: operation : dependentDecision \"a\" [] A ; outputs : x ; returns : table (x : A) { (B) -> 9223372036854775808; } ; :---: };",
+        "refused game WideNumber at 1:131\n",
+    ),
+    (
+        "game main = ((((((((((((((((((((((((((((((((((((((((((((((((((((((((((((((((((",
+        "refused game Deep at 1:77\n",
+    ),
+    (
+        "game main = branch bool { };",
+        "refused game Syntax at 1:13\n",
+    ),
 ];
 
 /// Games that are refused, whatever the strategy, and also where the strategy is missing or fails: it
 /// isn't read.
 #[test]
 fn refused_games(rt: HostRuntime) {
-    for game in REFUSED_GAMES {
-        let mut case = calm(game, "", BAD_GAME, Status::GameText);
+    for &(game, line) in REFUSED_GAMES {
+        let mut case = calm(game, "", line, Status::GameText);
         check(&rt, rt.alloc(), &case);
         case.failing_load = Some(2);
         check(&rt, rt.alloc(), &case);
@@ -303,30 +362,98 @@ fn refused_games(rt: HostRuntime) {
     }
 }
 
-/// Strategies that are refused, after the games that they are for.
-const REFUSED_STRATEGIES: &[(&str, &str)] = &[
-    (PRISONERS, ""),
-    (PRISONERS, "strategy \"player1\" { () -> Cooperate; }"),
+/// Strategies that are refused, after the games that they are for, with the line that says why.
+const REFUSED_STRATEGIES: &[(&str, &str, &str)] = &[
+    // Strategy files that don't fit, or are no small strategy.
+    (PRISONERS, "", UNBUILT_STRATEGY),
+    (
+        PRISONERS,
+        "strategy \"player1\" { () -> Cooperate; }",
+        UNBUILT_STRATEGY,
+    ),
     (
         PRISONERS,
         "strategy \"player2\" { () -> Cooperate; } strategy \"player1\" { () -> Cooperate; }",
+        UNBUILT_STRATEGY,
     ),
     (
         PRISONERS,
         "strategy \"player1\" { () -> Cooperate; } strategy \"player2\" { () -> Other; }",
+        UNBUILT_STRATEGY,
     ),
     (
         PRISONERS,
         "strategy \"player1\" { () -> Cooperate; } strategy \"player2\" { () -> Cooperate; } // both",
+        UNBUILT_STRATEGY,
     ),
-    (EMPTY, "strategy \"a\" { }"),
+    (EMPTY, "strategy \"a\" { }", UNBUILT_STRATEGY),
+    (ONE, "strategy \"a\" { () -> L : 1; }", UNBUILT_STRATEGY),
+    // Texts that are no strategy file.
+    (
+        EMPTY,
+        "strategy \"a\" { () -> x }",
+        "refused strategy Syntax at 1:24\n",
+    ),
+    (EMPTY, EMPTY, "refused strategy Syntax at 1:1\n"),
+    (EMPTY, "\n ~", "refused strategy BadChar at 2:2\n"),
+    (
+        EMPTY,
+        "strategy \"a { }",
+        "refused strategy OpenText at 1:10\n",
+    ),
+    (
+        EMPTY,
+        "99999999999999999999",
+        "refused strategy WideNumber at 1:1\n",
+    ),
+    (
+        EMPTY,
+        "strategy \"a\" { (((((((((((((((((((((((((((((((((((((((((((((((((((((((((((((((((",
+        "refused strategy Deep at 1:79\n",
+    ),
 ];
 
 #[test]
 fn refused_strategies(rt: HostRuntime) {
-    for &(game, strategy) in REFUSED_STRATEGIES {
-        let case = calm(game, strategy, BAD_STRATEGY, Status::StrategyText);
+    for &(game, strategy, line) in REFUSED_STRATEGIES {
+        let case = calm(game, strategy, line, Status::StrategyText);
         check(&rt, rt.alloc(), &case);
+    }
+}
+
+/// Bytes of a game and of a strategy, of which one is no text, with the line that says where.
+const BAD_BYTES: &[(&[u8], &[u8], &str, Status)] = &[
+    (
+        b"\xff",
+        b"",
+        "refused game BadUtf8 at 1:1\n",
+        Status::GameText,
+    ),
+    (
+        b"game main = block { :---: :---: };\n\xc3\xa9\xc3",
+        b"\xff",
+        "refused game BadUtf8 at 2:3\n",
+        Status::GameText,
+    ),
+    (
+        b"game main = block { :---: :---: };",
+        b"strategy \"\x80",
+        "refused strategy BadUtf8 at 1:11\n",
+        Status::StrategyText,
+    ),
+];
+
+#[test]
+fn bytes_that_are_no_text(rt: HostRuntime) {
+    for &(game, strategy, written, status) in BAD_BYTES {
+        let mut files = MemFiles::new(rt.alloc());
+        files.add(rt.alloc(), "g", game).expect(&rt, "memory");
+        files.add(rt.alloc(), "s", strategy).expect(&rt, "memory");
+        let mut out = MemSink::new(rt.alloc());
+        let words = words_of(&rt, rt.alloc(), "check g s");
+        let ended = run_case(rt.alloc(), words.as_slice(), &mut files, &mut out);
+        check_equal(&rt, str::from_utf8(out.written()), Ok(written));
+        check_equal(&rt, ended, status);
     }
 }
 
@@ -341,9 +468,11 @@ fn lengths(rt: HostRuntime) {
     let case = calm(text.as_str(), "", "equilibrium\n", Status::Done);
     check(&rt, alloc, &case);
     add(&rt, &mut text, " ");
-    let case = calm(text.as_str(), "", BAD_GAME, Status::GameText);
+    let line = "refused game TooLong at 1:1\n";
+    let case = calm(text.as_str(), "", line, Status::GameText);
     check(&rt, alloc, &case);
-    let case = calm(EMPTY, text.as_str(), BAD_STRATEGY, Status::StrategyText);
+    let line = "refused strategy TooLong at 1:1\n";
+    let case = calm(EMPTY, text.as_str(), line, Status::StrategyText);
     check(&rt, alloc, &case);
 }
 

@@ -4,7 +4,7 @@ use Rattle.std.specs.declared.vec.Vec.{Vec}
 use Rattle.og_io.specs.declared.faults.LoadFault.{LoadFault}
 use Rattle.og_io.specs.declared.faults.LoadFault.TheVariants.{Long}
 use Rattle.og_io.specs.Outside.{CountsLoad, CountsFault, LoadsHeld}
-use Rattle.og_tool.specs.Texts.{longest_text}
+use Rattle.og_texts.specs.Texts.{longest_text}
 use Rattle.og_tool.proofs.HalvesMeet.{long_text}
 use Rattle.og_tool.proofs.fetch.fetch.Goals as goal
 

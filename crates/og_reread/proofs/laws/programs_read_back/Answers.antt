@@ -1,0 +1,5 @@
+use Rattle.og_reread.proofs.ReadBack.{program_back}
+use Rattle.og_reread.proofs.laws.programs_read_back.Goals as goal
+
+pub returns : goal.returns
+returns c = program_back c.written_read_back.ensures.utf8 c.written_read_back.ensures.tokens c.written_read_back.ensures.bytes
