@@ -47,10 +47,10 @@ by_steps (suc fuel) a (suc b) h =
 pub found : (a b : ℕ) → Found a b
 found a b = by_steps (suc b) a b (omega arith)
 
-divides_in : (d n : ℕ) → d ∣ n → divides d n ≡ true
+pub divides_in : (d n : ℕ) → d ∣ n → divides d n ≡ true
 divides_in d n h = let e = mod-eq-zero_of_dvd d h in grind (arith, nat_tests)
 
-divides_out : (d n : ℕ) → divides d n ≡ true → d ∣ n
+pub divides_out : (d n : ℕ) → divides d n ≡ true → d ∣ n
 divides_out d n h = let e : n % d ≡ zero = grind (arith, nat_tests) in dvd_of_mod-eq-zero d e
 
 below_next : (k n : ℕ) (p : ℕ → Bool) → k ≤ suc n → p k ≡ true → p (suc n) ≡ false → k ≤ n

@@ -7,3 +7,6 @@ pub mod Floors
 pub mod TotalOrder
 pub mod TermSums
 pub mod Wholes
+pub mod Differences
+pub mod TermSizes
+pub mod Weights

@@ -8,7 +8,7 @@ use Rattle.std.proofs.lemmas.Int.{unsigned_abs-mul}
 use Rattle.og_frac.specs.Fraction.{Fraction, in_lowest_terms, IsInLowestTerms, SameNumber, sum, whole}
 use Rattle.og_frac.proofs.Divisors.{greatest_common_divisor_is, divides_other}
 use Rattle.og_frac.proofs.LowestTerms.{in_lowest_terms_is}
-use Rattle.og_frac.proofs.Wholes.{whole_is}
+use Rattle.og_frac.proofs.Wholes.{whole_lowest}
 use Rattle.og_frac.specs.laws.Integers.{neg_times, times_times, times_add, times_cancel, times_same, times_comm}
 
 SameNumber_trans : (a b c : Fraction) → 0 < b.denominator → SameNumber a b → SameNumber b c → SameNumber a c
@@ -58,7 +58,7 @@ in_lowest_terms_same a b p q e =
     (SameNumber_trans (in_lowest_terms a) a (in_lowest_terms b) p (SameNumber-in_lowest_terms a)
     (SameNumber_trans a b (in_lowest_terms b) q e (sym (SameNumber-in_lowest_terms b))))
 
-in_lowest_terms_lowest : (a : Fraction) → IsInLowestTerms a → in_lowest_terms a ≡ a
+pub in_lowest_terms_lowest : (a : Fraction) → IsInLowestTerms a → in_lowest_terms a ≡ a
 in_lowest_terms_lowest a p =
     same_from_SameNumber _ a (in_lowest_terms_is a p.positive) p (SameNumber-in_lowest_terms a)
 
@@ -132,6 +132,5 @@ sum_of_lowest a b p q =
 -- 0 over any denominator
 pub in_lowest_terms-zero : (d : ℕ) → 0 < d → in_lowest_terms (record { numerator = pos 0; denominator = d }) ≡ whole (pos 0)
 in_lowest_terms-zero d h =
-    let lowest = (whole_is (pos 0) (omega arith)).lowest in
     in_lowest_terms_same (record { numerator = pos 0; denominator = d }) (whole (pos 0)) h (omega arith) (ap pos (zero-mul 1 ∙ sym (zero-mul d)))
-    ∙ in_lowest_terms_lowest (whole (pos 0)) lowest
+    ∙ in_lowest_terms_lowest (whole (pos 0)) (whole_lowest (pos 0))

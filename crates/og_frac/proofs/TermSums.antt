@@ -51,7 +51,7 @@ common_split t u ts e p h =
     least_common_multiple_of_multiple t.pay.denominator _ (least_common_multiple_positive _ _ some (positive ts h))
     (subst (λ n. n ∣ common_denominator (u ∷ ts)) (sym same) (first_divides u.pay.denominator (common_denominator ts)))
 
-absolute_over-sum_by : (common : ℕ) (ts : List Term) → absolute_over common ts ≡ sum_by (size_over common) ts
+pub absolute_over-sum_by : (common : ℕ) (ts : List Term) → absolute_over common ts ≡ sum_by (size_over common) ts
 absolute_over-sum_by common [] = refl
 absolute_over-sum_by common (t ∷ ts) = ap (λ n. size_over common t + n) (absolute_over-sum_by common ts) ∙ sym (sum_by-cons (size_over common) t ts)
 
@@ -72,15 +72,19 @@ value_parts common (t ∷ ts) =
     λ a b m n x y p q r. omega (arith, ints) in
     whole_sum part rest _ _ _ _ h above below
 
-pub value_reordered : (common : ℕ) (ts us : List Term) → IsPermutation ts us → value_over common ts ≡ value_over common us
-value_reordered common ts us moved =
+pub value_by_parts : (common : ℕ) (ts us : List Term) → sum_by (λ t. up (part_over common t)) us ≡ sum_by (λ t. up (part_over common t)) ts
+    → sum_by (λ t. down (part_over common t)) us ≡ sum_by (λ t. down (part_over common t)) ts → value_over common ts ≡ value_over common us
+value_by_parts common ts us above below =
     let first = value_parts common ts in
     let second = value_parts common us in
-    let above = sum_by-IsPermutation (λ t. up (part_over common t)) ts us moved in
-    let below = sum_by-IsPermutation (λ t. down (part_over common t)) ts us moved in
     let joined : (a b : ℤ) (m n x y : ℕ) → up a + n ≡ down a + m → up b + y ≡ down b + x → x ≡ m → y ≡ n → a ≡ b =
     λ a b m n x y p q r s. same_in a b (omega arith) in
     joined (value_over common ts) (value_over common us) _ _ _ _ first second above below
+
+pub value_reordered : (common : ℕ) (ts us : List Term) → IsPermutation ts us → value_over common ts ≡ value_over common us
+value_reordered common ts us moved =
+    value_by_parts common ts us (sum_by-IsPermutation (λ t. up (part_over common t)) ts us moved)
+    (sum_by-IsPermutation (λ t. down (part_over common t)) ts us moved)
 
 part_split : (v w s : ℕ) (n : ℤ) → pos (v + w) *ℤ n *ℤ pos s ≡ pos v *ℤ n *ℤ pos s +ℤ pos w *ℤ n *ℤ pos s
 part_split v w s n =

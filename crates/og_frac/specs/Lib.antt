@@ -1,5 +1,4 @@
 pub mod Fraction
-pub mod Wide
 pub mod Frac
 pub mod Text
 pub mod Terms

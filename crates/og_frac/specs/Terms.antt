@@ -1,5 +1,5 @@
 -- Sums of weighted payments over a common denominator.
-use Rattle.std.specs.Prelude.{◌≡◌, ℕ, ◌+◌, ◌*◌, ◌/◌, ◌^◌, ◌<◌, ◌≤◌, ℤ, pos, ◌+ℤ◌, ◌*ℤ◌, unsigned_abs, List, [], ◌∷◌, Option, Some, None, ◌⊎◌, Result, Ok, Err}
+use Rattle.std.specs.Prelude.{◌≡◌, ℕ, ◌+◌, ◌*◌, ◌/◌, ◌^◌, ◌<◌, ◌≤◌, ℤ, pos, ◌+ℤ◌, ◌*ℤ◌, unsigned_abs, List, [], ◌∷◌, sum_by, Option, Some, None, ◌⊎◌, Result, Ok, Err}
 use Rattle.og_frac.specs.declared.terms.Term.{Term}
 use Rattle.og_frac.specs.declared.terms.Sum.{Sum}
 use Rattle.og_frac.specs.declared.fault.SumFault.{SumFault}
@@ -45,14 +45,29 @@ total (t ∷ ts) = sum (product (whole (pos t.weight)) t.pay) (total ts)
 abbrev pub IsPositive : Term → Type 0
 IsPositive t = 0 < t.pay.denominator
 
+-- a term counts
+abbrev pub HasWeight : Term → Type 0
+HasWeight t = 0 < t.weight
+
+-- the payment counts that many times as often
+abbrev pub scaled : ℕ → Term → Term
+scaled k t = record { weight = k * t.weight; pay = t.pay }
+
+-- each payment has the same weight in both lists, added up over its terms: what payments are worth
+-- adds up to the same, whatever each is worth
+abbrev pub SameWeights : List Term → List Term → Type 0
+SameWeights ts us =
+    (f : Fraction → ℕ) → sum_by (λ t. t.weight * f t.pay) ts ≡ sum_by (λ t. t.weight * f t.pay) us
+
 -- what stands in a sum of the terms
 pub record IsSumOf (ts : List Term) (sum : Sum) : Type 0 where
   pub common : sum.common ≡ common_denominator ts
   pub absolute_is : sum.absolute ≡ absolute ts
   pub value_is : sum.value ≡ value ts
 
--- that many times the sum leaves room in a word
+-- the common denominator is above 0, and that many times the sum leaves room in a word
 pub record HasRoom (times common absolute : ℕ) : Type 0 where
+  pub positive : 0 < common
   pub small_common : common < 2 ^ 63
   pub small_absolute : times * absolute < 2 ^ 126
 

@@ -116,6 +116,7 @@ impl Sum {
     /// common divisor, of the term's denominator and the multiple so far, with a division, then at most
     /// one division more, and a constant number of other operations on words; and one division in all
     /// for the room.
+    #[tactic(auto, using(crate::proofs::TermLaws::common_denominator_positive))]
     pub fn of(terms: &[Term], times: u64) -> Result<Sum, SumFault>
         requires { 1 ≤ times }
         ensures { IsExactSum terms.now times result }

@@ -1,6 +1,8 @@
-ghost use Rattle.std.specs.Prelude.{◌≡◌, ◌↔◌, IsTrue};
+ghost use Rattle.std.specs.Prelude.{◌≡◌, ◌↔◌, ◌<◌, ◌^◌, IsTrue, IsOk};
+ghost use Rattle.og_frac.specs.Terms.{absolute_over, SameWeights};
 
 use crate::equal::check_equal;
+use og_frac::laws::{differences, sizes, weights};
 use og_frac::{Frac, FracFault, Sum, SumFault, Term, Wide};
 use std::alloc::Global;
 use std::cmp::Ordering;
@@ -87,9 +89,26 @@ fn arithmetic(rt: HostRuntime) {
         (minus_half.ratio(zero, minus_half), Ok((-1, 2))),
         (one.ratio(zero, seven), Ok((7, 1))),
         (most.ratio(most, seven), Ok((1, 1))),
+        (most.ratio(third, seven), Err(FracFault::Passes)),
     ];
     for (answer, want) in rows {
         check_equal(&rt, parts(answer), want);
+    }
+}
+
+/// The opposite of a fraction fits.
+fn opposite(q: Frac) -> Result<Frac, FracFault>
+    ensures { IsOk result }
+{
+    differences();
+    Frac::whole(0).sub(q)
+}
+
+#[test]
+fn opposites(rt: HostRuntime) {
+    for (n, d) in [(1, 2), (-1, 2), (0, 1), (-MOST, 1)] {
+        let got = parts(opposite(frac(&rt, n, d)));
+        check_equal(&rt, got, Ok((-n, d)));
     }
 }
 
@@ -237,12 +256,77 @@ fn sums_of_terms(rt: HostRuntime) {
     }
 }
 
+/// The parts of two lists with the same weights, which are the same.
+fn same_parts(first: &[Term], second: &[Term], common: u64) -> (i128, i128)
+    requires weights { SameWeights first.now second.now }
+    requires room { absolute_over common first.now < 2 ^ 126 }
+    ensures { result.0 ≡ result.1 }
+{
+    weights();
+    (Sum::part(first, common), Sum::part(second, common))
+}
+
+#[test]
+fn same_weights(rt: HostRuntime) {
+    let term = |weight, n| Term {
+        weight,
+        pay: Frac::whole(n),
+    };
+    let first = [term(1, 4), term(5, -3), term(2, 4)];
+    let second = [term(5, -3), term(3, 4)];
+    check_equal(&rt, same_parts(&first, &second, 6), (-18, -18));
+}
+
+/// What the terms before an index and those after it add over the denominator of all.
+fn parts_of_split(terms: &[Term], mid: usize) -> Result<(i128, i128), SumFault> {
+    let sum = Sum::of(terms, 1)?;
+    sizes();
+    let (front, back) = terms.split_at(mid.min(terms.len()));
+    Ok((Sum::part(front, sum.common), Sum::part(back, sum.common)))
+}
+
+/// Weights, numerators and denominators, an index among them, and what the terms before it and those
+/// after it add over the denominator of all.
+const SPLITS: &[(&[(u64, i64, u64)], usize, (i128, i128))] = &[
+    (&[(2, 1, 2)], 0, (0, 2)),
+    (&[(2, 1, 2), (3, -1, 3)], 1, (6, -6)),
+    (&[(1, 1, 2), (5, -3, 4), (7, 2, 3)], 1, (6, 11)),
+];
+
+#[test]
+fn parts_over_larger_denominators(rt: HostRuntime) {
+    for &(parts, mid, want) in SPLITS {
+        let made = terms(&rt, rt.alloc(), parts);
+        check_equal(&rt, parts_of_split(made.as_slice(), mid), Ok(want));
+    }
+}
+
 #[test]
 fn wide_fractions(rt: HostRuntime) {
-    for (num, den, want) in [(-6, 4, (-3, 2)), (0, 1 << 127, (0, 1))] {
+    let rows = [
+        (-6, 4, (-3, 2), "-3/2"),
+        (-8, 4, (-2, 1), "-2"),
+        (0, 1 << 127, (0, 1), "0"),
+    ];
+    for (num, den, want, printed) in rows {
         let wide = Wide::new(num, den);
         check_equal(&rt, (wide.num, wide.den), want);
+        let text = format!(in rt.alloc(); "{wide}").expect(&rt, "memory");
+        check_equal(&rt, text.as_str(), printed);
     }
+}
+
+/// The sum of the terms as a fraction.
+fn fraction_of_sum(terms: &[Term]) -> Result<Wide, SumFault> {
+    let sum = Sum::of(terms, 1)?;
+    sizes();
+    Ok(Wide::new(sum.value, u128::from(sum.common)))
+}
+
+#[test]
+fn fractions_of_sums(rt: HostRuntime) {
+    let made = terms(&rt, rt.alloc(), &[(1, 1, 2), (5, -3, 4), (1, 1, 4)]);
+    check_equal(&rt, fraction_of_sum(made.as_slice()), Ok(Wide::new(-3, 1)));
 }
 
 #[test]
