@@ -1,5 +1,5 @@
 -- Fitting is an order of types, and a value of a type is one of each type that it fits.
-use Rattle.std.proofs.Common.{◌≡◌, ℕ, ℤ, Bool, true, ◌&&◌, ◌==◌, List, [], ◌∷◌, map, ap, sym, subst, ◌∙◌, refl, arith, eq-eqb, eqb-true}
+use Rattle.std.proofs.Common.{◌≡◌, ℕ, ℤ, Bool, true, false, ◌&&◌, ◌==◌, List, [], ◌∷◌, map, ap, sym, subst, ◌∙◌, refl, arith, eq-eqb, eqb-true}
 use Rattle.std.specs.Prelude.{int_le, nat_lt}
 use Rattle.std.specs.Cmp.Lexicographic.{pointwise}
 use Rattle.std.proofs.lemmas.Int.{ints}
@@ -14,7 +14,8 @@ use Rattle.og_types.specs.declared.ty.Ty.TheOpen.{Ty-F}
 use Rattle.og_types.specs.declared.ty.Ty.TheOpen as one
 use Rattle.og_types.specs.declared.ty.Ty.TheViews.{out-Ty, roll-Ty, roll-out-Ty, out-roll-Ty}
 use Rattle.og_types.specs.declared.ty.Ty.TheFolds.{fold-roll-Ty, map-Ty, ind-Ty}
-use Rattle.og_types.specs.Ty.{fits, fits_step, holds, holds_step, is_between}
+use Rattle.og_types.specs.Ty.{same, fits, fits_step, holds, holds_step, is_between}
+use Rattle.og_types.specs.laws.TyEquality.{same_decides}
 
 pub fits_at : (z : Ty-F Ty) (w : Ty) → fits (roll-Ty z) w ≡ fits_step (map-Ty Ty (Ty → Bool) fits z) (out-Ty w)
 fits_at z w = λ i. fold-roll-Ty (Ty → Bool) (λ t u. fits_step t (out-Ty u)) z i w
@@ -126,6 +127,27 @@ pub fits_both_ways : (t u : Ty) → fits t u ≡ true → fits u t ≡ true → 
 fits_both_ways = ind-Ty Both (λ x y is. subst (λ z. Both (roll-Ty z)) is (λ u p q.
     let z = map-Ty ((t : Ty) × Both t) Ty (λ e. e.0) y in
     ap roll-Ty (levels_both y (out-Ty u) (sym (fits_at z u) ∙ p) (sym (fits_open u (roll-Ty z) ∙ ap (fits_step (map-Ty Ty (Ty → Bool) fits (out-Ty u))) (out-roll-Ty z)) ∙ q)) ∙ roll-out-Ty u))
+
+-- types are found to be the same where each fits the other
+same_fits : (t u : Ty) → fits t u && fits u t ≡ same t u
+same_fits t u = by (fits t u) (fits u t) (same t u) refl refl refl
+  where
+    by : (a b c : Bool) → fits t u ≡ a → fits u t ≡ b → same t u ≡ c → a && b ≡ c
+    by true true true p q r = refl
+    by true true false p q r =
+        absurd (let found = (same_decides t u).1 (fits_both_ways t u p q) in cc)
+    by true false true p q r =
+        absurd (let found = ap (λ w. fits u w) ((same_decides t u).0 r) ∙ fits_itself u in cc)
+    by true false false p q r = refl
+    by false b true p q r =
+        absurd (let found = ap (λ w. fits w u) ((same_decides t u).0 r) ∙ fits_itself u in cc)
+    by false b false p q r = refl
+
+pub same_where_fits : (t u : Ty) → fits t u ≡ true → fits u t ≡ same t u
+same_where_fits t u p = ap (λ b. b && fits u t) (sym p) ∙ same_fits t u
+
+pub same_nowhere_else : (t u : Ty) → fits t u ≡ false → false ≡ same t u
+same_nowhere_else t u p = ap (λ b. b && fits u t) (sym p) ∙ same_fits t u
 
 -- a value of a type is one of each type that it fits
 

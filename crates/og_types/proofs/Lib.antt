@@ -11,3 +11,5 @@ pub mod ValuesOf
 pub mod RankLaws
 pub mod FitsLaws
 pub mod JoinLaws
+pub mod Forms
+pub mod ListLaws

@@ -6,6 +6,7 @@ use Rattle.std.specs.Cmp.Lexicographic.{pointwise, slice_cmp}
 use Rattle.std.specs.declared.cmp.Ordering.{Ordering}
 use Rattle.std.specs.declared.cmp.Ordering.TheVariants.{Less, Equal, Greater}
 use Rattle.std.specs.Ordering.{ordering_then, is_ne, nat_cmp}
+use Rattle.std.proofs.lemmas.Bool.{and_parts}
 use Rattle.std.proofs.lemmas.List.{drop_all}
 use Rattle.std.proofs.lemmas.Option.{slice_get_cases}
 use Rattle.og_list.proofs.Drop.{drop_at, drop_got}
@@ -16,6 +17,13 @@ pointwise-map_first f E [] [] = refl
 pointwise-map_first f E [] (y ∷ ys) = refl
 pointwise-map_first f E (x ∷ xs) [] = refl
 pointwise-map_first f E (x ∷ xs) (y ∷ ys) = ap (λ b. E (f x) y && b) (pointwise-map_first f E xs ys)
+
+-- the lists are as long
+pub pointwise_length : {A B : Type 0} (E : A → B → Bool) (xs : List A) (ys : List B) → pointwise E xs ys ≡ true → length xs ≡ length ys
+pointwise_length E [] [] h = refl
+pointwise_length E [] (y ∷ ys) h = absurd (cc)
+pointwise_length E (x ∷ xs) [] h = absurd (cc)
+pointwise_length E (x ∷ xs) (y ∷ ys) h = let both = and_parts (E x y) (pointwise E xs ys) h in omega (arith, pointwise_length E xs ys both.1)
 
 -- the test at a place, and after it
 pointwise_at : {A B : Type 0} (E : A → B → Bool) (xs : List A) (ys : List B) (i : ℕ) (x : A) (y : B) → i < length xs → x ≡ get_or xs i x → slice_get ys i ≡ Some y → pointwise E (drop i xs) (drop i ys) ≡ E x y && pointwise E (drop (i + 1) xs) (drop (i + 1) ys)

@@ -32,12 +32,12 @@ use Rattle.og_types.specs.declared.ty.Ty.TheFolds.{fold-roll-Ty, map-Ty, ind-Ty}
 use Rattle.og_types.specs.declared.ty.Ty.TheVariants as ty
 use Rattle.og_types.specs.Ty.{holds, holds_step, is_finite, is_finite_step, is_between}
 use Rattle.og_types.specs.Value.{same, order}
-use Rattle.og_types.specs.laws.ValueOrder.{order_cases, order_flags, order_numbers}
 use Rattle.og_types.proofs.FitsLaws.{holds_at}
-use Rattle.og_types.proofs.ValueLevels.{order_tuples}
+use Rattle.og_types.proofs.ValueLevels.{order_numbers, order_cases, order_flags, order_tuples}
 use Rattle.og_types.specs.laws.ValueEquality.{same_equal, same_decides}
 use Rattle.og_types.specs.Values.{values_of, joint_values_of, rank_of, joint_rank_of, place_of, span, IsSmall, AreSmall}
-use Rattle.og_types.proofs.TyLevels.{type_induction, values_enum, values_bool, values_range, values_tuple, values_number}
+use Rattle.og_types.specs.laws.Induction.{type_induction}
+use Rattle.og_types.proofs.TyLevels.{values_enum, values_bool, values_range, values_tuple, values_number}
 use Rattle.og_types.proofs.Tuples.{product_from, place_product, place_shorter, mapped_from, together}
 use Rattle.og_types.proofs.ValuesOf.{range_map_at}
 use Rattle.og_types.proofs.RankOf.{rank_at, rank_by, rank_enum_there, rank_bool, rank_range, rank_tuple}

@@ -1,9 +1,9 @@
--- What definitions on types say at each form, and induction on types.
-use Rattle.std.proofs.Common.{◌≡◌, ℕ, ℤ, pos, Bool, true, false, List, [], ◌∷◌, map, ap, sym, subst, ◌∙◌}
-use Rattle.std.specs.Prelude.{Option, ◌+ℤ◌}
+-- What definitions on types say at each form.
+use Rattle.std.proofs.Common.{◌≡◌, ℕ, ℤ, pos, Bool, true, false, List, [], ◌∷◌, map, ap, sym, ◌∙◌}
+use Rattle.std.specs.Prelude.{Option, ◌+ℤ◌, ◌&&◌, ◌^◌, nat_lt, unsigned_abs}
 use Rattle.og_frac.specs.Fraction.{whole}
 use Rattle.std.specs.Option.{option_map}
-use Rattle.std.specs.List.{AllByRecursion, list_all, range_with_len}
+use Rattle.std.specs.List.{list_all, range_with_len}
 use Rattle.std.proofs.lemmas.List.Folds.{list_all-map}
 use Rattle.std.specs.Cmp.Lexicographic.{pointwise}
 use Rattle.og_types.specs.declared.value.Value.{Value}
@@ -12,28 +12,12 @@ use Rattle.og_types.specs.declared.value.Value.TheVariants as value
 use Rattle.og_types.specs.declared.ty.Ty.{Ty}
 use Rattle.og_types.specs.declared.ty.Ty.TheOpen.{Ty-F}
 use Rattle.og_types.specs.declared.ty.Ty.TheOpen as one
-use Rattle.og_types.specs.declared.ty.Ty.TheViews.{out-Ty, roll-Ty}
-use Rattle.og_types.specs.declared.ty.Ty.TheFolds.{fold-Ty, fold-roll-Ty, map-Ty, ind-Ty}
+use Rattle.og_types.specs.declared.ty.Ty.TheViews.{out-Ty}
+use Rattle.og_types.specs.declared.ty.Ty.TheFolds.{fold-Ty, fold-roll-Ty}
 use Rattle.og_types.specs.declared.ty.Ty.TheVariants as ty
-use Rattle.og_types.specs.Ty.{same, same_step, fits, fits_step, holds, holds_step, is_finite, is_finite_step, bounds_fit, bounds_fit_step, join, join_step, joins}
+use Rattle.og_types.specs.Ty.{fits, fits_step, holds, holds_step, is_finite, is_finite_step, bounds_fit, bounds_fit_step, join, join_step, joins}
 use Rattle.og_types.specs.Values.{values_of, values_step, joint_values_of, span}
 use Rattle.og_types.proofs.Pointwise.{pointwise-map_first}
-
--- each of the parts beside its proof
-proofs_of : (P : Ty → Type 0) (es : List ((t : Ty) × P t)) → AllByRecursion P (map (λ e. e.0) es)
-proofs_of P [] = tt
-proofs_of P (e ∷ es) = (e.1, proofs_of P es)
-
--- a fact that holds of each form where it holds of the parts
-pub type_induction : (P : Ty → Type 0) → ((family cases : ℕ) → P (ty.Enum family cases)) → P ty.Bool → ((low high : ℤ) → P (ty.Range low high)) → ((parts : List Ty) → AllByRecursion P parts → P (ty.Tuple parts)) → P ty.Number → (t : Ty) → P t
-type_induction P on_enum on_bool on_range on_tuple on_number = ind-Ty P (λ x y is. subst (λ z. P (roll-Ty z)) is (step y))
-  where
-    step : (y : Ty-F ((t : Ty) × P t)) → P (roll-Ty (map-Ty ((t : Ty) × P t) Ty (λ e. e.0) y))
-    step (one.Enum family cases) = subst P (sym (ty.rolls-Enum family cases)) (on_enum family cases)
-    step one.Bool = subst P (sym ty.rolls-Bool) on_bool
-    step (one.Range low high) = subst P (sym (ty.rolls-Range low high)) (on_range low high)
-    step (one.Tuple es) = subst P (sym (ty.rolls-Tuple (map (λ e. e.0) es))) (on_tuple (map (λ e. e.0) es) (proofs_of P es))
-    step one.Number = subst P (sym ty.rolls-Number) on_number
 
 -- a definition at each form
 pub fold_enum : (A : Type 0) (step : Ty-F A → A) (family cases : ℕ) → fold-Ty A step (ty.Enum family cases) ≡ step (one.Enum family cases)
@@ -56,9 +40,6 @@ fold_tuples : (A : Type 0) (step : Ty-F (Ty → A) → Ty-F Ty → A) (ts us : L
 fold_tuples A step ts us =
     (λ i. fold_tuple (Ty → A) (λ t u. step t (out-Ty u)) ts i (ty.Tuple us)) ∙ ap (step (one.Tuple (map (fold-Ty (Ty → A) (λ t u. step t (out-Ty u))) ts))) (ty.outs-Tuple us)
 
-pub same_tuples : (ts us : List Ty) → same (ty.Tuple ts) (ty.Tuple us) ≡ pointwise same ts us
-same_tuples ts us = fold_tuples Bool same_step ts us ∙ pointwise-map_first same (λ part other. part other) ts us
-
 pub fits_tuples : (ts us : List Ty) → fits (ty.Tuple ts) (ty.Tuple us) ≡ pointwise fits ts us
 fits_tuples ts us = fold_tuples Bool fits_step ts us ∙ pointwise-map_first fits (λ part other. part other) ts us
 
@@ -71,6 +52,24 @@ join_tuples ts us = fold_tuples (Option Ty) join_step ts us
 
 pub is_finite_tuple : (ts : List Ty) → is_finite (ty.Tuple ts) ≡ list_all is_finite ts
 is_finite_tuple ts = fold_tuple Bool is_finite_step ts ∙ list_all-map (λ part. part) is_finite ts
+
+pub is_finite_bool : is_finite ty.Bool ≡ true
+is_finite_bool = fold_bool Bool is_finite_step
+
+pub is_finite_number : is_finite ty.Number ≡ false
+is_finite_number = fold_number Bool is_finite_step
+
+pub bounds_fit_enum : (family cases : ℕ) → bounds_fit (ty.Enum family cases) ≡ true
+bounds_fit_enum family cases = fold_enum Bool bounds_fit_step family cases
+
+pub bounds_fit_bool : bounds_fit ty.Bool ≡ true
+bounds_fit_bool = fold_bool Bool bounds_fit_step
+
+pub bounds_fit_range : (low high : ℤ) → bounds_fit (ty.Range low high) ≡ nat_lt (unsigned_abs low) (2 ^ 63) && nat_lt (unsigned_abs high) (2 ^ 63)
+bounds_fit_range low high = fold_range Bool bounds_fit_step low high
+
+pub bounds_fit_number : bounds_fit ty.Number ≡ true
+bounds_fit_number = fold_number Bool bounds_fit_step
 
 pub bounds_fit_tuple : (ts : List Ty) → bounds_fit (ty.Tuple ts) ≡ list_all bounds_fit ts
 bounds_fit_tuple ts = fold_tuple Bool bounds_fit_step ts ∙ list_all-map (λ part. part) bounds_fit ts

@@ -1,6 +1,6 @@
-ghost use Rattle.std.specs.Prelude.{◌≡◌, IfOk};
+ghost use Rattle.std.specs.Prelude.{◌≡◌, ◌↔◌, IfOk, IsTrue};
 ghost use Rattle.std.specs.Option.{option_copied};
-ghost use Rattle.og_types.specs.Names.{name_of, case_of};
+ghost use Rattle.og_types.specs.Names.{name_of, case_of, same_family, same_enums};
 
 use og_list::{List, Text};
 use std::alloc::{AllocError, Global};
@@ -32,6 +32,13 @@ impl Family {
             cases.add(case.copy(alloc)?)?;
         }
         Ok(Family { name, cases })
+    }
+
+    /// Whether the two families are equal.
+    fn is_same(&self, other: &Family) -> bool
+        ensures { result ≡ same_family self.now other.now }
+    {
+        self.name == other.name && self.cases == other.cases
     }
 }
 
@@ -69,4 +76,58 @@ impl Enums {
         }
         Ok(Enums { families })
     }
+}
+
+/// `==` answers true exactly at equal families: those of one name, with the same names of cases.
+impl PartialEq for Family {
+    ghost use Rattle.og_types.specs.Names.{same_family};
+    ghost use Rattle.og_types.specs.laws.EnumsEquality.{family_decides};
+    ghost use Rattle.std.specs.Cmp.{decided, partial_equiv_from_equiv};
+
+    ghost eq = { same_family };
+
+    ghost laws = { partial_equiv_from_equiv (decided same_family family_decides) };
+
+    #[tactic(auto, using(crate::specs::laws::EnumsEquality::family_decides))]
+    fn eq(&self, other: &Family) -> bool
+        ensures same { result ≡ same_family self.now other.now }
+        ensures equal { IsTrue result ↔ (self.now ≡ other.now) }
+    {
+        self.is_same(other)
+    }
+}
+
+impl Eq for Family {
+    ghost use Rattle.og_types.specs.Names.{same_family};
+    ghost use Rattle.og_types.specs.laws.EnumsEquality.{family_decides};
+    ghost use Rattle.std.specs.Cmp.{decided};
+
+    ghost laws = { decided same_family family_decides };
+}
+
+/// `==` answers true exactly at equal names: the same enums with the same cases, in one order.
+impl PartialEq for Enums {
+    ghost use Rattle.og_types.specs.Names.{same_enums};
+    ghost use Rattle.og_types.specs.laws.EnumsEquality.{enums_decide};
+    ghost use Rattle.std.specs.Cmp.{decided, partial_equiv_from_equiv};
+
+    ghost eq = { same_enums };
+
+    ghost laws = { partial_equiv_from_equiv (decided same_enums enums_decide) };
+
+    #[tactic(auto, using(crate::specs::laws::EnumsEquality::enums_decide))]
+    fn eq(&self, other: &Enums) -> bool
+        ensures same { result ≡ same_enums self.now other.now }
+        ensures equal { IsTrue result ↔ (self.now ≡ other.now) }
+    {
+        self.families == other.families
+    }
+}
+
+impl Eq for Enums {
+    ghost use Rattle.og_types.specs.Names.{same_enums};
+    ghost use Rattle.og_types.specs.laws.EnumsEquality.{enums_decide};
+    ghost use Rattle.std.specs.Cmp.{decided};
+
+    ghost laws = { decided same_enums enums_decide };
 }

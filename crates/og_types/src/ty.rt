@@ -39,24 +39,12 @@ impl Ty {
         }
     }
 
-    /// Whether the two types are equal.
-    #[cycle(same_types)]
-    #[tactic(auto, using(crate::proofs::TyLevels::same_tuples))]
+    /// Whether the two types are equal: whether each fits the other.
+    #[tactic(auto, using(crate::proofs::FitsLaws::same_where_fits, crate::proofs::FitsLaws::same_nowhere_else))]
     fn is_same(&self, other: &Ty) -> bool
         ensures { result ≡ same self.now other.now }
     {
-        match (self, other) {
-            (Ty::Enum(family, cases), Ty::Enum(other_family, other_cases)) => {
-                family == other_family && cases == other_cases
-            }
-            (Ty::Bool, Ty::Bool) => true,
-            (Ty::Range(low, high), Ty::Range(other_low, other_high)) => {
-                low == other_low && high == other_high
-            }
-            (Ty::Tuple(parts), Ty::Tuple(other_parts)) => are_same(parts, other_parts),
-            (Ty::Number, Ty::Number) => true,
-            _ => false,
-        }
+        self.fits(other) && other.fits(self)
     }
 
     /// Whether a value of this type will do where one of the other is asked for.
@@ -203,27 +191,6 @@ pub fn copy_types(alloc: Global, types: &List<Ty>) -> Result<List<Ty>, AllocErro
         all.add(ty.copy(alloc)?)?;
     }
     Ok(all)
-}
-
-/// Whether the two lists have equal types at each place.
-#[cycle(same_types)]
-fn are_same(types: &List<Ty>, others: &List<Ty>) -> bool
-    ensures { result ≡ pointwise same types.now others.now }
-{
-    if types.len() != others.len() {
-        return false;
-    }
-    'types: for (at, ty) in types.as_slice().iter().enumerate() {
-        match others.get(at) {
-            Some(other) => {
-                if !ty.is_same(other) {
-                    return false;
-                }
-            }
-            None => return false,
-        }
-    }
-    true
 }
 
 /// Whether each type fits the one at its place, and there are as many.

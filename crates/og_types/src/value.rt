@@ -1,5 +1,5 @@
 ghost use Rattle.std.specs.Prelude.{◌≡◌, ◌↔◌, IfOk, IsTrue};
-ghost use Rattle.std.specs.Cmp.Lexicographic.{pointwise, slice_cmp};
+ghost use Rattle.std.specs.Cmp.Lexicographic.{slice_cmp};
 ghost use Rattle.og_types.specs.Value.{same, order};
 
 use og_frac::Frac;
@@ -34,21 +34,12 @@ impl Value {
         }
     }
 
-    /// Whether the two values are equal.
-    #[cycle(same_values)]
-    #[tactic(auto, using(crate::proofs::ValueLevels::same_tuples))]
+    /// Whether the two values are equal: whether neither comes before the other.
+    #[tactic(auto, using(crate::specs::laws::ValueOrder::order_equal))]
     fn is_same(&self, other: &Value) -> bool
         ensures { result ≡ same self.now other.now }
     {
-        match (self, other) {
-            (Value::Case(family, index), Value::Case(other_family, other_index)) => {
-                family == other_family && index == other_index
-            }
-            (Value::Flag(first), Value::Flag(second)) => first == second,
-            (Value::Number(first), Value::Number(second)) => first == second,
-            (Value::Tuple(parts), Value::Tuple(other_parts)) => are_same(parts, other_parts),
-            _ => false,
-        }
+        self.order(other).is_eq()
     }
 
     /// The order of the two values. Of one type, they stand as in the list of its values, and numbers
@@ -85,27 +76,6 @@ pub fn copy_values(alloc: Global, values: &List<Value>) -> Result<List<Value>, A
         all.add(value.copy(alloc)?)?;
     }
     Ok(all)
-}
-
-/// Whether the two lists have equal values at each place.
-#[cycle(same_values)]
-fn are_same(values: &List<Value>, others: &List<Value>) -> bool
-    ensures { result ≡ pointwise same values.now others.now }
-{
-    if values.len() != others.len() {
-        return false;
-    }
-    'values: for (at, value) in values.as_slice().iter().enumerate() {
-        match others.get(at) {
-            Some(other) => {
-                if !value.is_same(other) {
-                    return false;
-                }
-            }
-            None => return false,
-        }
-    }
-    true
 }
 
 /// The order of the two lists: by the first values, then the second, and so on.

@@ -1,5 +1,6 @@
-ghost use Rattle.std.specs.Prelude.{◌≡◌, ◌↔◌, IsTrue, true};
-ghost use Rattle.og_types.specs.Ty.{bounds_fit};
+ghost use Rattle.std.specs.Prelude.{◌≡◌, ◌↔◌, ◌<◌, IsTrue, true, IsSome, Some, IfOk, if◌then◌else◌, codes};
+ghost use Rattle.std.specs.Cmp.Lexicographic.{pointwise};
+ghost use Rattle.og_types.specs.Ty.{bounds_fit, fits, holds};
 ghost use Rattle.og_types.specs.Values.{IsSmall};
 
 use crate::equal::check_equal;
@@ -46,15 +47,19 @@ fn texts(rt: &impl Abort, alloc: Global, first: &str, second: &str) -> List<Text
     pair(rt, alloc, first, second)
 }
 
-/// One enum of two cases.
-fn moves(rt: &impl Abort, alloc: Global) -> Enums {
+/// One enum, of two cases.
+fn one_enum(rt: &impl Abort, alloc: Global, names: (&str, &str, &str)) -> Enums {
     let family = Family {
-        name: Text::from(alloc, "Move").expect(rt, "memory"),
-        cases: texts(rt, alloc, "Cooperate", "Defect"),
+        name: Text::from(alloc, names.0).expect(rt, "memory"),
+        cases: texts(rt, alloc, names.1, names.2),
     };
     let mut families = List::new(alloc);
     families.add(family).expect(rt, "memory");
     Enums { families }
+}
+
+fn moves(rt: &impl Abort, alloc: Global) -> Enums {
+    one_enum(rt, alloc, ("Move", "Cooperate", "Defect"))
 }
 
 /// The text of each value, with a space after it.
@@ -397,4 +402,149 @@ fn copy_of_a_family(rt: HostRuntime) {
     let family = family.copy(alloc).expect(&rt, "memory");
     check_equal(&rt, family.name.as_str(), "Move");
     check_equal(&rt, family.cases, texts(&rt, alloc, "Cooperate", "Defect"));
+}
+
+/// Whether the names are those of the moves.
+fn check_moves(rt: &impl Abort, alloc: Global, names: &Enums, want: bool) {
+    check_equal(rt, *names == moves(rt, alloc), want);
+}
+
+/// An enum's name and its two cases, and whether they are those of the moves.
+const NAMES: &[((&str, &str, &str), bool)] = &[
+    (("Move", "Cooperate", "Defect"), true),
+    (("Moves", "Cooperate", "Defect"), false),
+    (("Move", "Cooperate", "Deflect"), false),
+    (("Move", "Defect", "Cooperate"), false),
+    (("", "", ""), false),
+];
+
+#[test]
+fn equal_names(rt: HostRuntime) {
+    let alloc = rt.alloc();
+    for &(names, want) in NAMES {
+        check_moves(&rt, alloc, &one_enum(&rt, alloc, names), want);
+    }
+    let none = Enums {
+        families: List::new(alloc),
+    };
+    check_moves(&rt, alloc, &none, false);
+    let copy = moves(&rt, alloc).copy(alloc).expect(&rt, "memory");
+    check_moves(&rt, alloc, &copy, true);
+}
+
+/// A case is of its enum.
+fn holds_a_case(family: u32, cases: u32, index: u32) -> bool
+    requires { index < cases }
+    ensures { IsTrue result }
+{
+    laws::forms_of_values();
+    Ty::Enum(family, cases).holds(&Value::Case(family, index))
+}
+
+/// A range fits the type of all numbers.
+fn range_is_of_numbers(low: i64, high: i64) -> bool
+    ensures { IsTrue result }
+{
+    laws::forms_of_fitting();
+    Ty::Range(low, high).fits(&Ty::Number)
+}
+
+/// The join of a range and the type of all numbers.
+fn joined_with_numbers(alloc: Global, low: i64, high: i64) -> Result<Option<Ty>, AllocError>
+    ensures { IfOk result (λ joined. joined ≡ Some Ty.Number) }
+{
+    laws::forms_of_joining();
+    Ty::Range(low, high).join(alloc, &Ty::Number)
+}
+
+/// A range is finite.
+fn count_of_range(low: i64, high: i64) -> Option<u32>
+    ensures { IsSome result }
+{
+    laws::forms_of_finite_types();
+    Ty::Range(low, high).count()
+}
+
+/// The bounds of an enum fit.
+fn bounds_of_enum(family: u32, cases: u32) -> bool
+    ensures { IsTrue result }
+{
+    laws::forms_of_bounds();
+    Ty::Enum(family, cases).bounds_fit()
+}
+
+/// The text of a truth.
+fn text_of_flag(alloc: Global, flag: bool, enums: &Enums) -> Result<Text, AllocError>
+    ensures { IfOk result (λ text. text ≡ (if flag then codes "true" else codes "false")) }
+{
+    laws::forms_of_text();
+    show(alloc, &Value::Flag(flag), enums)
+}
+
+/// The only type that fits that of truths is itself.
+fn fits_truths(ty: &Ty) -> bool
+    ensures { IsTrue result ↔ (ty.now ≡ Ty.Bool) }
+{
+    laws::types_that_fit();
+    laws::forms_of_fitting();
+    ty.fits(&Ty::Bool)
+}
+
+/// The only type that the type of all numbers fits is itself.
+fn numbers_fit(ty: &Ty) -> bool
+    ensures { IsTrue result ↔ (ty.now ≡ Ty.Number) }
+{
+    laws::types_fitted();
+    laws::forms_of_fitting();
+    Ty::Number.fits(ty)
+}
+
+/// A value of the type of truths is a truth.
+fn is_truth(value: &Value) -> bool
+    requires { holds Ty.Bool value.now ≡ true }
+    ensures { IsTrue result }
+{
+    laws::values_of_types();
+    match value {
+        Value::Flag(_) => true,
+        _ => false,
+    }
+}
+
+/// Values of types that fit others are of those too.
+fn pass_along(types: &List<Ty>, into: &List<Ty>, values: &List<Value>) -> bool
+    requires fit { pointwise fits types.now into.now ≡ true }
+    requires held { pointwise holds types.now values.now ≡ true }
+    ensures { IsTrue result }
+{
+    laws::lists();
+    all_hold(into, values)
+}
+
+#[test]
+fn laws_hold(rt: HostRuntime) {
+    let alloc = rt.alloc();
+    check_equal(&rt, holds_a_case(3, 2, 1), true);
+    check_equal(&rt, range_is_of_numbers(-1, 5), true);
+    let joined = joined_with_numbers(alloc, -1, 5).expect(&rt, "memory");
+    check_equal(&rt, joined, Some(Ty::Number));
+    check_equal(&rt, count_of_range(-1, 5), Some(7));
+    check_equal(&rt, bounds_of_enum(3, 2), true);
+    let text = text_of_flag(alloc, true, &moves(&rt, alloc)).expect(&rt, "memory");
+    check_equal(&rt, text.as_str(), "true");
+    check_equal(&rt, fits_truths(&Ty::Number), false);
+    check_equal(&rt, numbers_fit(&Ty::Number), true);
+    let value = Value::Flag(false);
+    assert!(rt; Ty::Bool.holds(&value));
+    check_equal(&rt, is_truth(&value), true);
+}
+
+#[test]
+fn laws_of_lists_hold(rt: HostRuntime) {
+    let alloc = rt.alloc();
+    let types = flag_and_range(&rt, alloc);
+    let into = pair(&rt, alloc, Ty::Bool, Ty::Number);
+    let values = list_of_true_and(&rt, alloc, -1, 1);
+    assert!(rt; all_fit(&types, &into) && all_hold(&types, &values));
+    check_equal(&rt, pass_along(&types, &into, &values), true);
 }

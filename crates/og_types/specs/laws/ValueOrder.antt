@@ -7,14 +7,12 @@ use Rattle.std.specs.Cmp.{IsTotalOrder, Equal-is, nat_cmp_total, bool_cmp_total,
 use Rattle.std.specs.Cmp.Lexicographic.{pointwise, slice_cmp}
 use Rattle.std.specs.declared.cmp.Ordering.{Ordering}
 use Rattle.std.specs.declared.cmp.Ordering.TheVariants.{Less, Equal, Greater}
-use Rattle.og_frac.specs.Fraction.{Fraction, total_order}
 use Rattle.og_frac.specs.laws.Orders.{total_order_total, total_order_equal}
 use Rattle.og_types.specs.declared.value.Value.{Value}
 use Rattle.og_types.specs.declared.value.Value.TheOpen.{Value-F}
 use Rattle.og_types.specs.declared.value.Value.TheOpen as one
 use Rattle.og_types.specs.declared.value.Value.TheViews.{out-Value, roll-Value, roll-out-Value, out-roll-Value}
 use Rattle.og_types.specs.declared.value.Value.TheFolds.{fold-roll-Value, map-Value, ind-Value}
-use Rattle.og_types.specs.declared.value.Value.TheVariants as value
 use Rattle.og_types.specs.Value.{same, same_step, same_flag, order, order_step}
 use Rattle.og_types.specs.laws.ValueEquality.{same_at, same_equal, same_itself}
 
@@ -173,20 +171,3 @@ order_total = record {
 
 pub order_decides : (v w : Value) → (order v w ≡ Equal) ↔ (v ≡ w)
 order_decides v w = (equal_in_order v w, λ e. ap (order v) (sym e) ∙ order_itself v)
-
-pub order_numbers : (p q : Fraction) → order (value.Number p) (value.Number q) ≡ total_order p q
-order_numbers p q =
-    ap (λ v. order v (value.Number q)) (sym (value.rolls-Number p)) ∙ order_at (one.Number p) (value.Number q)
-    ∙ ap (order_step (one.Number p)) (value.outs-Number q)
-
-pub order_cases : (family index other at : ℕ)
-    → order (value.Case family index) (value.Case other at) ≡ ordering_then (nat_cmp family other) (nat_cmp index at)
-order_cases family index other at =
-    ap (λ v. order v (value.Case other at)) (sym (value.rolls-Case family index))
-    ∙ order_at (one.Case family index) (value.Case other at)
-    ∙ ap (order_step (one.Case family index)) (value.outs-Case other at)
-
-pub order_flags : (a b : Bool) → order (value.Flag a) (value.Flag b) ≡ bool_cmp a b
-order_flags a b =
-    ap (λ v. order v (value.Flag b)) (sym (value.rolls-Flag a)) ∙ order_at (one.Flag a) (value.Flag b)
-    ∙ ap (order_step (one.Flag a)) (value.outs-Flag b)

@@ -1,6 +1,6 @@
 use Rattle.std.proofs.Common.{◌∙◌}
-use Rattle.og_types.specs.laws.ValueOrder.{order_reversed, order_decides, order_along, order_numbers, order_cases, order_flags}
-use Rattle.og_types.proofs.ValueLevels.{order_tuples}
+use Rattle.og_types.specs.laws.ValueOrder.{order_reversed, order_decides, order_along}
+use Rattle.og_types.proofs.ValueLevels.{order_numbers, order_cases, order_flags, order_tuples}
 use Rattle.og_types.proofs.laws.ordering.Goals as goal
 
 pub returns-clause-reversed : goal.returns-clause-reversed
