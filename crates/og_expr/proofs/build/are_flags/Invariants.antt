@@ -1,0 +1,8 @@
+use Rattle.std.proofs.Common.{◌≡◌, map, drop}
+use Rattle.std.specs.List.{list_all}
+use Rattle.og_types.specs.declared.ty.Ty.TheVariants as ty
+use Rattle.og_expr.specs.Types.{type_of, goes_as}
+use Rattle.og_expr.proofs.build.are_flags.Given as goal
+
+abbrev pub invariant-parts : goal.invariant-parts
+invariant-parts l = list_all (goes_as ty.Bool) (map type_of (drop l.part-index l.parts)) ≡ list_all (goes_as ty.Bool) (map type_of l.parts)

@@ -1,0 +1,14 @@
+//! Typed expressions: trees that can't be ill typed, and their exact values.
+#![tactic(auto)]
+
+mod build;
+mod copy;
+mod count;
+mod evaluation;
+mod expr;
+pub mod laws;
+mod node;
+
+pub use evaluation::{EvalFault, eval};
+pub use expr::{BuildFault, Expr};
+pub use node::{Addend, Choice, Factor, Key, Node, NodeOf, Term, Test};
