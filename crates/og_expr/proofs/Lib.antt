@@ -1,7 +1,13 @@
 pub mod Forms
-pub mod Passing
 pub mod Steps
 pub mod Ranks
 pub mod Induction
 pub mod Replacing
 pub mod Locality
+pub mod Listed
+pub mod Together
+pub mod Tested
+pub mod Soundness
+pub mod Occurrences
+pub mod Narrower
+pub mod Ascending

@@ -45,18 +45,6 @@ from_none : (n : ℕ) (o : Option ℕ) → option_map (λ j. 0 * n + j) o ≡ o
 from_none n None = refl
 from_none n (Some j) = ap Some (omega (arith, zero-mul n))
 
-pub ahead_at_start : (ts : List Ty) (vs : List Value) → AreSmall ts → 0 < length (joint_values_of ts)
-    → Ahead ts vs 0 (place_in ts vs)
-ahead_at_start ts vs small some = record {
-  comes = from_none (many ts) (joint_rank_of ts vs) ∙ place_small ts vs small;
-  room = omega (arith, small.few);
-  some = some;
-  finite = small.finite;
-}
-
-pub ahead_at_end : (rank : ℕ) (total : Option ℕ) → Ahead [] [] rank total → total ≡ Some rank
-ahead_at_end rank total ahead = sym ahead.comes ∙ ap Some (omega arith)
-
 -- the factors of a product that isn't 0
 both_some : (m n : ℕ) → 0 < m * n → (0 < m) × (0 < n)
 both_some zero n h = absurd (omega (arith, zero-mul n))

@@ -1,6 +1,7 @@
 -- What replacing and renaming variables do to the value, the type and the size of an expression.
 use Rattle.std.proofs.Common.{◌≡◌, ◌∙◌, ℕ, ◌+◌, refl, ap, sym}
-use Rattle.std.specs.Prelude.{Option}
+use Rattle.std.specs.Prelude.{List, Option, Some, None, slice_get, unwrap_or}
+use Rattle.std.specs.Option.{option_map}
 use Rattle.og_types.specs.declared.ty.Ty.{Ty}
 use Rattle.og_types.specs.declared.value.Value.{Value}
 use Rattle.og_types.specs.Ty.{bounds_fit}
@@ -11,9 +12,10 @@ use Rattle.og_expr.specs.declared.node.Term.TheFolds.{fold-Term}
 use Rattle.og_expr.specs.Terms.{term_of}
 use Rattle.og_expr.specs.Levels.{node_with, fold_of_node}
 use Rattle.og_expr.specs.Types.{type_of, type_rule, typed_if}
-use Rattle.og_expr.specs.Counts.{nodes_of, nodes_below}
+use Rattle.og_expr.specs.Counts.{nodes_of, nodes_below, height_of, height_below}
 use Rattle.og_expr.specs.Values.{Env, value_in, value_rule}
-use Rattle.og_expr.specs.Replaced.{at_variables, replaced, renamed, nodes_with, height_of, height_below, height_with}
+use Rattle.og_expr.specs.Variables.{at_variables}
+use Rattle.og_expr.specs.Replaced.{variable, replaced, renamed, tree_at, nodes_with, height_with}
 use Rattle.og_expr.proofs.Induction.{term_induction, agree, twice}
 
 -- what is made of an expression by a rule for one form
@@ -62,40 +64,58 @@ value_rules env other n = refl
 
 -- ---- replacing
 
-pub value_replaced : (args : ℕ → Term) (env : Env) (e : Term)
-    → value_in env (replaced args e) ≡ value_in (λ n. value_in env (args n)) e
-value_replaced args env e =
-    with_trees (λ number t. args number) (value_rule env) (λ number t. value_in env (args number)) (λ number t. refl) e
-    ∙ same_rule (at_variables (λ number t. value_in env (args number)) (value_rule env)) (value_rule (λ n. value_in env (args n)))
-    (value_rules (λ n. value_in env (args n)) env) e
+pub value_replaced : (trees : ℕ → Ty → Term) (env other : Env) (e : Term)
+    → ((number : ℕ) (t : Ty) → value_in env (trees number t) ≡ other number)
+    → value_in env (replaced trees e) ≡ value_in other e
+value_replaced trees env other e same =
+    with_trees trees (value_rule env) (λ number t. other number) same e
+    ∙ same_rule (at_variables (λ number t. other number) (value_rule env)) (value_rule other) (value_rules other env) e
 
-pub nodes_replaced : (args : ℕ → Term) (e : Term) → nodes_of (replaced args e) ≡ nodes_with (λ n. nodes_of (args n)) e
-nodes_replaced args =
-    with_trees (λ number t. args number) (λ n. nodes_below n + 1) (λ number t. nodes_of (args number)) (λ number t. refl)
+value_of_variable : (env : Env) (number : ℕ) (t : Ty) → value_in env (variable number t) ≡ env number
+value_of_variable env number t = fold_of_node (value_rule env) (nodes.Var number t)
 
-pub height_replaced : (args : ℕ → Term) (e : Term) → height_of (replaced args e) ≡ height_with (λ n. height_of (args n)) e
-height_replaced args =
-    with_trees (λ number t. args number) (λ n. height_below n + 1) (λ number t. height_of (args number)) (λ number t. refl)
+value_at : (env : Env) (tree : Option Term) (number : ℕ) (t : Ty)
+    → value_in env (unwrap_or tree (variable number t)) ≡ unwrap_or (option_map (value_in env) tree) (env number)
+value_at env None number t = value_of_variable env number t
+value_at env (Some tree) number t = refl
+
+pub value_listed : (trees : List Term) (env : Env) (e : Term) → value_in env (replaced (tree_at trees) e)
+    ≡ value_in (λ number. unwrap_or (option_map (value_in env) (slice_get trees number)) (env number)) e
+value_listed trees env e =
+    value_replaced (tree_at trees) env (λ number. unwrap_or (option_map (value_in env) (slice_get trees number)) (env number)) e
+    (λ number t. value_at env (slice_get trees number) number t)
+
+pub nodes_replaced : (trees : ℕ → Ty → Term) (e : Term)
+    → nodes_of (replaced trees e) ≡ nodes_with (λ number t. nodes_of (trees number t)) e
+nodes_replaced trees =
+    with_trees trees (λ n. nodes_below n + 1) (λ number t. nodes_of (trees number t)) (λ number t. refl)
+
+pub height_replaced : (trees : ℕ → Ty → Term) (e : Term)
+    → height_of (replaced trees e) ≡ height_with (λ number t. height_of (trees number t)) e
+height_replaced trees =
+    with_trees trees (λ n. height_below n + 1) (λ number t. height_of (trees number t)) (λ number t. refl)
 
 -- ---- renaming
 
 pub value_renamed : (f : ℕ → ℕ) (env : Env) (e : Term) → value_in env (renamed f e) ≡ value_in (λ n. env (f n)) e
 value_renamed f env e =
-    with_trees (λ number t. term_of (nodes.Var (f number) t)) (value_rule env) (λ number t. env (f number))
-    (λ number t. fold_of_node (value_rule env) (nodes.Var (f number) t)) e
-    ∙ same_rule (at_variables (λ number t. env (f number)) (value_rule env)) (value_rule (λ n. env (f n)))
-    (value_rules (λ n. env (f n)) env) e
+    value_replaced (λ number t. variable (f number) t) env (λ n. env (f n)) e (λ number t. value_of_variable env (f number) t)
+
+-- what a rule makes of a variable whatever its number
+renamed_same : {A : Type 0} (rule : NodeOf A → A) (of_variable : Ty → A)
+    → ((number : ℕ) (t : Ty) → rule (nodes.Var number t) ≡ of_variable t) → (f : ℕ → ℕ) (e : Term)
+    → by_rule rule (renamed f e) ≡ by_rule rule e
+renamed_same rule of_variable same f e =
+    with_trees (λ number t. variable (f number) t) rule (λ number t. of_variable t)
+    (λ number t. fold_of_node rule (nodes.Var (f number) t) ∙ same (f number) t) e
+    ∙ same_rule (at_variables (λ number t. of_variable t) rule) rule
+    (unchanged (λ number t. of_variable t) rule (λ number t. sym (same number t))) e
 
 pub type_renamed : (f : ℕ → ℕ) (e : Term) → type_of (renamed f e) ≡ type_of e
-type_renamed f e =
-    with_trees (λ number t. term_of (nodes.Var (f number) t)) type_rule (λ number t. typed_if (bounds_fit t) t)
-    (λ number t. fold_of_node type_rule (nodes.Var (f number) t)) e
-    ∙ same_rule (at_variables (λ number t. typed_if (bounds_fit t) t) type_rule) type_rule
-    (unchanged (λ number t. typed_if (bounds_fit t) t) type_rule (λ number t. refl)) e
+type_renamed = renamed_same type_rule (λ t. typed_if (bounds_fit t) t) (λ number t. refl)
 
 pub nodes_renamed : (f : ℕ → ℕ) (e : Term) → nodes_of (renamed f e) ≡ nodes_of e
-nodes_renamed f e =
-    with_trees (λ number t. term_of (nodes.Var (f number) t)) (λ n. nodes_below n + 1) (λ number t. 1)
-    (λ number t. fold_of_node (λ n. nodes_below n + 1) (nodes.Var (f number) t)) e
-    ∙ same_rule (at_variables (λ number t. 1) (λ n. nodes_below n + 1)) (λ n. nodes_below n + 1)
-    (unchanged (λ number t. 1) (λ n. nodes_below n + 1) (λ number t. refl)) e
+nodes_renamed = renamed_same (λ n. nodes_below n + 1) (λ t. 1) (λ number t. refl)
+
+pub height_renamed : (f : ℕ → ℕ) (e : Term) → height_of (renamed f e) ≡ height_of e
+height_renamed = renamed_same (λ n. height_below n + 1) (λ t. 1) (λ number t. refl)

@@ -10,7 +10,8 @@ use Rattle.og_expr.specs.declared.evaluation.EvalFault.{EvalFault}
 use Rattle.og_expr.specs.declared.evaluation.EvalFault.TheVariants.{Passes, Memory}
 use Rattle.og_expr.specs.Levels.{choice_with, key_with}
 use Rattle.og_expr.specs.Types.{each_of}
-use Rattle.og_expr.specs.Values.{flag_of, first_chosen}
+use Rattle.og_expr.specs.Values.{first_chosen}
+use Rattle.og_types.specs.Value.{flag_of}
 use Rattle.og_expr.specs.Evaluated.{Evaluates}
 
 -- what has no value passes, whatever stands for it
@@ -62,13 +63,6 @@ pub body_fails : {E : Type 0} (f : E → Option Value) (cs : List (Choice E)) (i
     → (e : EvalFault) → Evaluates (f c.body) (Err e) → Evaluates total (Err e)
 body_fails f cs i c lt is total inv v some holds e fault = fails (f c.body) e fault total
     (λ none. condition_told f cs i c lt is total inv v some true holds ∙ ap (option_map Some) none)
-
-pub body_found : {E : Type 0} (f : E → Option Value) (cs : List (Choice E)) (i : ℕ) (c : Choice E)
-    → i < length cs → c ≡ get_or cs i c → (total : Option (Option Value)) → conditions f (drop i cs) ≡ total
-    → (v : Value) → f c.cond ≡ Some v → flag_of v ≡ Some true
-    → (w : Value) → f c.body ≡ Some w → total ≡ Some (Some w)
-body_found f cs i c lt is total inv v some holds w found =
-    condition_told f cs i c lt is total inv v some true holds ∙ ap (option_map Some) found
 
 pub next_condition : {E : Type 0} (f : E → Option Value) (cs : List (Choice E)) (i : ℕ) (c : Choice E)
     → i < length cs → c ≡ get_or cs i c → (total : Option (Option Value)) → conditions f (drop i cs) ≡ total

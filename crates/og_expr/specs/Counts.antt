@@ -1,48 +1,34 @@
--- How large an expression is.
-use Rattle.std.specs.Prelude.{ℕ, ◌+◌, ◌*◌, ◌-◌, ◌^◌, min, length, sum_by}
+-- How large an expression is: its nodes and its height.
+use Rattle.std.specs.Prelude.{ℕ, ◌+◌, ◌*◌, ◌-◌, ◌^◌, min, max, length}
 use Rattle.og_expr.specs.declared.node.NodeOf.{NodeOf}
 use Rattle.og_expr.specs.declared.node.NodeOf.TheVariants as nodes
-use Rattle.og_expr.specs.declared.node.Addend.{Addend}
-use Rattle.og_expr.specs.declared.node.Addend.TheVariants as addends
-use Rattle.og_expr.specs.declared.node.Factor.{Factor}
-use Rattle.og_expr.specs.declared.node.Factor.TheVariants as factors
 use Rattle.og_expr.specs.declared.node.Term.{Term}
 use Rattle.og_expr.specs.declared.node.Term.TheFolds.{fold-Term}
+use Rattle.og_expr.specs.Parts.{together}
 
-abbrev pub addend_nodes : Addend ℕ → ℕ
-addend_nodes (addends.Plus n) = n
-addend_nodes (addends.Minus n) = n
+abbrev pub plus : ℕ → ℕ → ℕ
+plus m n = m + n
 
-abbrev pub factor_nodes : Factor ℕ → ℕ
-factor_nodes (factors.Times n) = n
-factor_nodes (factors.Over d) = 0
+-- the values of a table's keys in its rows
+abbrev pub key_values : {A : Type 0} → NodeOf A → ℕ
+key_values (nodes.Table keys rows) = length rows * length keys
+key_values n = 0
 
 -- the nodes below one; each value of a table's key counts as one
 abbrev pub nodes_below : NodeOf ℕ → ℕ
-nodes_below (nodes.Literal n) = 0
-nodes_below (nodes.Flag flag) = 0
-nodes_below (nodes.Case family cases index) = 0
-nodes_below (nodes.Var number t) = 0
-nodes_below (nodes.Or ns) = sum_by (λ n. n) ns
-nodes_below (nodes.And ns) = sum_by (λ n. n) ns
-nodes_below (nodes.Not n) = n
-nodes_below (nodes.Compare test n k) = n + k
-nodes_below (nodes.Sum n more) = n + sum_by addend_nodes more
-nodes_below (nodes.Product n more) = n + sum_by factor_nodes more
-nodes_below (nodes.Neg n) = n
-nodes_below (nodes.Field n k) = n
-nodes_below (nodes.Tuple ns) = sum_by (λ n. n) ns
-nodes_below (nodes.If choices n) = sum_by (λ c. c.cond + c.body) choices + n
-nodes_below (nodes.Table keys rows) =
-    sum_by (λ key. key.expr) keys + (sum_by (λ n. n) rows + length rows * length keys)
-nodes_below (nodes.Ratio x y z) = x + (y + z)
-nodes_below (nodes.Min n k) = n + k
-nodes_below (nodes.Max n k) = n + k
-nodes_below (nodes.Clamp low high n) = n
+nodes_below n = together 0 plus n + key_values n
 
 -- how many nodes an expression has
 abbrev pub nodes_of : Term → ℕ
 nodes_of = fold-Term ℕ (λ level. nodes_below level.node + 1)
+
+-- the greatest height of a part, and 0 where there is none; a value of a table's key is no part
+abbrev pub height_below : NodeOf ℕ → ℕ
+height_below = together 0 max
+
+-- how high an expression is: 1 at a leaf, and one more than its highest part elsewhere
+abbrev pub height_of : Term → ℕ
+height_of = fold-Term ℕ (λ level. height_below level.node + 1)
 
 -- a count that stands still at 2^32 - 1
 abbrev pub capped : ℕ → ℕ

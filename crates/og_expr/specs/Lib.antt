@@ -1,8 +1,11 @@
 pub mod Terms
+pub mod Parts
 pub mod Types
 pub mod Counts
 pub mod Levels
 pub mod Built
 pub mod Values
 pub mod Evaluated
+pub mod Variables
 pub mod Replaced
+pub mod Sound

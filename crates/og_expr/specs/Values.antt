@@ -7,12 +7,13 @@ use Rattle.std.specs.Ordering.{int_eq, is_lt, is_le, is_gt, is_ge}
 use Rattle.std.specs.declared.cmp.Ordering.{Ordering}
 use Rattle.og_frac.specs.Fraction as fraction
 use Rattle.og_frac.specs.Fraction.{Fraction}
+use Rattle.og_frac.specs.Fitting.{fitting, lesser, greater, ratio_of}
 use Rattle.og_types.specs.declared.value.Value.{Value}
 use Rattle.og_types.specs.declared.value.Value.TheOpen as one
 use Rattle.og_types.specs.declared.value.Value.TheViews.{out-Value}
 use Rattle.og_types.specs.declared.value.Value.TheVariants as value
 use Rattle.og_types.specs.declared.ty.Ty.{Ty}
-use Rattle.og_types.specs.Value.{same}
+use Rattle.og_types.specs.Value.{same, flag_of, number_of, part_of}
 use Rattle.og_types.specs.Ty.{is_finite}
 use Rattle.og_types.specs.Values.{joint_values_of, joint_rank_of}
 use Rattle.og_expr.specs.declared.node.NodeOf.{NodeOf}
@@ -32,26 +33,11 @@ use Rattle.og_expr.specs.Types.{is_word, is_equality, each_of}
 abbrev pub Env : Type 0
 Env = ℕ → Option Value
 
--- ---- values of one form
-
-abbrev pub flag_of : Value → Option Bool
-flag_of v = elim (out-Value v) [ one.Flag flag ↦ Some flag | _ ↦ None ]
-
-abbrev pub number_of : Value → Option Fraction
-number_of v = elim (out-Value v) [ one.Number number ↦ Some number | _ ↦ None ]
-
-abbrev pub part_of : ℕ → Value → Option Value
-part_of k v = elim (out-Value v) [ one.Tuple parts ↦ slice_get parts k | _ ↦ None ]
-
 abbrev pub flag_in : Option Value → Option Bool
 flag_in v = option_and_then flag_of v
 
 abbrev pub number_in : Option Value → Option Fraction
 number_in v = option_and_then number_of v
-
--- the fraction, where its parts are below 2^63
-abbrev pub fitting : Fraction → Option Fraction
-fitting q = if nat_lt (unsigned_abs q.numerator) (2 ^ 63) && nat_lt q.denominator (2 ^ 63) then Some q else None
 
 -- a whole number that is a word
 abbrev pub whole_value : ℤ → Option Value
@@ -119,15 +105,6 @@ compared test v w =
 -- what is made of two numbers
 abbrev pub of_two : {A : Type 0} → (Fraction → Fraction → Option A) → Option Value → Option Value → Option A
 of_two f v w = option_and_then (λ p. option_and_then (λ q. f p q) (number_in w)) (number_in v)
-
-abbrev pub lesser : Fraction → Fraction → Fraction
-lesser p q = if is_gt (fraction.order p q) then q else p
-
-abbrev pub greater : Fraction → Fraction → Fraction
-greater p q = if is_lt (fraction.order p q) then q else p
-
-abbrev pub ratio_of : Fraction → Fraction → Fraction → Option Fraction
-ratio_of x y z = if int_eq y.numerator (pos 0) then Some z else fitting (fraction.quotient x y)
 
 -- the greatest whole number that isn't above the number, lowered to the one bound, then raised to the other
 abbrev pub clamped : ℤ → ℤ → Fraction → Option Value

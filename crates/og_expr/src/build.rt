@@ -9,7 +9,7 @@ ghost use Rattle.og_expr.specs.Built.{Builds};
 ghost use Rattle.og_types.specs.Ty.{is_finite, bounds_fit};
 ghost use Rattle.std.specs.Prelude.{Some, true, pos, ◌-ℤ◌, int_le};
 
-use crate::count::count;
+use crate::count::{Size, measure};
 use crate::expr::{BuildFault, Expr};
 use crate::node::{Addend, Choice, Factor, Key, Node, NodeOf, Test};
 use og_list::List;
@@ -395,8 +395,13 @@ impl Expr {
     {
         match type_of(alloc, &node) {
             Ok(Some(ty)) => {
-                let nodes = count(&node);
-                Ok(Expr { node, ty, nodes })
+                let Size { nodes, height } = measure(&node);
+                Ok(Expr {
+                    node,
+                    ty,
+                    nodes,
+                    height,
+                })
             }
             Ok(None) => Err(BuildFault::BadType),
             Err(_) => Err(BuildFault::Memory),

@@ -9,7 +9,7 @@ use og_types::Ty;
 use std::alloc::{AllocError, Global};
 
 /// The expression behind a pointer.
-fn boxed(alloc: Global, e: Expr) -> Result<Boxed<Expr>, AllocError>
+pub(crate) fn boxed(alloc: Global, e: Expr) -> Result<Boxed<Expr>, AllocError>
     ensures { IfOk result (λ made. made ≡ e) }
 {
     match Boxed::new(alloc, e) {
@@ -93,6 +93,7 @@ fn remade(alloc: Global, node: Node, like: &Expr) -> Result<Expr, AllocError>
         node,
         ty,
         nodes: like.nodes,
+        height: like.height,
     })
 }
 

@@ -7,7 +7,9 @@ ghost use Rattle.og_types.specs.declared.value.Value.TheVariants as value;
 ghost use Rattle.og_frac.specs.Fraction as fraction;
 ghost use Rattle.og_frac.specs.Fraction.{Fraction};
 ghost use Rattle.og_frac.specs.Frac.{IsExact};
-ghost use Rattle.og_expr.specs.Values.{flag_of, number_of, part_of, flag_in, number_in, fitting, whole_value, any_of, all_of, first_chosen, or_last, added, number_value, sum_from, multiplied, product_from, holds_in, equals, compared, lesser, greater, ratio_of, clamped, place_in, row_at, value_in, value_of};
+ghost use Rattle.og_expr.specs.Values.{flag_in, number_in, whole_value, any_of, all_of, first_chosen, or_last, added, number_value, sum_from, multiplied, product_from, holds_in, equals, compared, clamped, place_in, row_at, value_in, value_of};
+ghost use Rattle.og_types.specs.Value.{flag_of, number_of, part_of};
+ghost use Rattle.og_frac.specs.Fitting.{fitting, ratio_of};
 ghost use Rattle.og_expr.specs.Types.{each_of, is_equality, is_word, type_of};
 ghost use Rattle.og_expr.specs.Levels.{addend_with, factor_with, choice_with, key_with};
 ghost use Rattle.og_types.specs.Values.{joint_values_of, AreSmall};
@@ -34,7 +36,7 @@ pub enum EvalFault {
 }
 
 /// The fraction, where the operation on fractions has one.
-#[tactic(auto, using(crate::proofs::Passing::passed_exact))]
+#[tactic(auto, using(og_frac::specs::laws::Passing::passed_exact))]
 fn passed(found: Result<Frac, FracFault>) -> Result<Frac, EvalFault>
     ensures { (q : Fraction) → IsExact found q → Evaluates (fitting q) result }
 {
@@ -117,24 +119,6 @@ fn ratio_of(x: Frac, y: Frac, z: Frac) -> Result<Frac, EvalFault>
         Ok(z)
     } else {
         passed(x.ratio(y, z))
-    }
-}
-
-fn lesser(p: Frac, q: Frac) -> Frac
-    ensures { result ≡ lesser p q }
-{
-    match p.cmp(&q) {
-        Ordering::Greater => q,
-        _ => p,
-    }
-}
-
-fn greater(p: Frac, q: Frac) -> Frac
-    ensures { result ≡ greater p q }
-{
-    match p.cmp(&q) {
-        Ordering::Less => q,
-        _ => p,
     }
 }
 
@@ -390,12 +374,12 @@ fn value(alloc: Global, e: &Expr, env: &[Value]) -> Result<Value, EvalFault>
         NodeOf::Min(a, b) => {
             let p = number_of(value(alloc, a.get(), env)?)?;
             let q = number_of(value(alloc, b.get(), env)?)?;
-            Ok(Value::Number(lesser(p, q)))
+            Ok(Value::Number(p.lesser(q)))
         }
         NodeOf::Max(a, b) => {
             let p = number_of(value(alloc, a.get(), env)?)?;
             let q = number_of(value(alloc, b.get(), env)?)?;
-            Ok(Value::Number(greater(p, q)))
+            Ok(Value::Number(p.greater(q)))
         }
         NodeOf::Clamp(low, high, part) => {
             let n = number_of(value(alloc, part.get(), env)?)?;

@@ -1,5 +1,8 @@
 use crate::copy::copy;
 use crate::node::{Node, NodeOf, Term};
+use crate::replace::replace;
+use crate::takes::takes;
+use crate::variables::variables;
 use og_list::List;
 use og_types::Ty;
 use std::alloc::{AllocError, Global};
@@ -21,6 +24,7 @@ pub struct Expr {
     pub node: NodeOf<Expr>,
     pub(crate) ty: Ty,
     pub(crate) nodes: u32,
+    pub(crate) height: u32,
 }
 
 impl Model for Expr {
@@ -35,11 +39,12 @@ impl Model for Expr {
 
     ghost use Rattle.og_expr.specs.Terms.{term_of};
     ghost use Rattle.og_expr.specs.Types.{type_of};
-    ghost use Rattle.og_expr.specs.Counts.{nodes_of, capped};
+    ghost use Rattle.og_expr.specs.Counts.{nodes_of, height_of, capped};
 
     ghost view = { λ e. term_of e.node };
 
-    ghost invariant = { λ e. (type_of (term_of e.node) ≡ Some e.ty) × (e.nodes ≡ capped (nodes_of (term_of e.node))) };
+    ghost invariant = { λ e. (type_of (term_of e.node) ≡ Some e.ty) × (e.nodes ≡ capped (nodes_of (term_of e.node)))
+        × (e.height ≡ capped (height_of (term_of e.node))) };
 
     ghost size = { size-Term };
 
@@ -52,10 +57,12 @@ impl Model for Expr {
 }
 
 impl Expr {
-    ghost use Rattle.std.specs.Prelude.{◌≡◌, Some, IfOk};
+    ghost use Rattle.std.specs.Prelude.{◌≡◌, ◌<◌, ◌↔◌, ℕ, true, Some, IfOk, AllPairs, Contains};
     ghost use Rattle.og_expr.specs.Terms.{term_of};
     ghost use Rattle.og_expr.specs.Types.{type_of};
-    ghost use Rattle.og_expr.specs.Counts.{nodes_of, capped};
+    ghost use Rattle.og_expr.specs.Counts.{nodes_of, height_of, capped};
+    ghost use Rattle.og_expr.specs.Variables.{numbers_of, all_variables, as_variable};
+    ghost use Rattle.og_expr.specs.Replaced.{replaced, tree_at, takes};
 
     /// The expression's type.
     pub fn ty(&self) -> &Ty
@@ -83,5 +90,48 @@ impl Expr {
         ensures { result ≡ capped (nodes_of self.now) }
     {
         self.nodes
+    }
+    /// How high it is, or 2^32 - 1 where it is higher: 1 where it has no parts, and one more than its highest
+    /// part elsewhere.
+    pub fn height(&self) -> u32
+        ensures { result ≡ capped (height_of self.now) }
+    {
+        self.height
+    }
+
+    /// Whether each tree of the list has a type that fits the one of the variables with its place as their
+    /// number, so that it goes in their place.
+    pub fn takes(&self, trees: &List<Expr>) -> bool
+        ensures { result ≡ all_variables (takes trees.now) self.now }
+    {
+        takes(self, trees)
+    }
+
+    /// The expression in which each variable is replaced by the list's tree at the variable's number, where there
+    /// is one, with types by these trees. No other variable changes.
+    pub fn replace(&self, alloc: Global, trees: &List<Expr>) -> Result<Expr, AllocError>
+        requires { all_variables (takes trees.now) self.now ≡ true }
+        ensures { IfOk result (λ made. made ≡ replaced (tree_at trees.now) self.now) }
+    {
+        replace(alloc, self, trees)
+    }
+
+    /// The variable's number, where the whole expression is a variable.
+    #[tactic(auto, using(crate::proofs::Forms::as_variable_node))]
+    pub fn as_variable(&self) -> Option<u32>
+        ensures { result ≡ as_variable self.now }
+    {
+        match &self.node {
+            NodeOf::Var { number, ty: _ } => Some(*number),
+            _ => None,
+        }
+    }
+
+    /// The numbers of the variables that occur, ascending, once each.
+    pub fn variables(&self, alloc: Global) -> Result<List<u32>, AllocError>
+        ensures ascending { IfOk result (λ found. AllPairs (λ m n. m < n) found) }
+        ensures each { IfOk result (λ found. (n : ℕ) → Contains found n ↔ Contains (numbers_of self.now) n) }
+    {
+        variables(alloc, self)
     }
 }

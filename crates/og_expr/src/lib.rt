@@ -8,6 +8,9 @@ mod evaluation;
 mod expr;
 pub mod laws;
 mod node;
+mod replace;
+mod takes;
+mod variables;
 
 pub use evaluation::{EvalFault, eval};
 pub use expr::{BuildFault, Expr};

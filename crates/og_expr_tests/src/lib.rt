@@ -6,4 +6,6 @@ mod equal;
 #[cfg(test)]
 mod made;
 #[cfg(test)]
+mod replaced;
+#[cfg(test)]
 mod values;

@@ -4,6 +4,7 @@ use crate::equal::check_equal;
 use crate::made::In::{Numbers, Range, Truths};
 use crate::made::Make::{self, *};
 use crate::made::made;
+use crate::replaced::check_replaced;
 use og_expr::Test::{AtLeast, AtMost, Differs, Equal, Greater, Less};
 use og_expr::{BuildFault, EvalFault, Expr, eval};
 use og_frac::Frac;
@@ -202,7 +203,7 @@ const BRANCHES: &[Row] = &[
     (&[Num(1), Table(&[], 1)], "BadType"),
 ];
 
-fn text(rt: &impl Abort, alloc: Global, s: &str) -> Text {
+pub fn text(rt: &impl Abort, alloc: Global, s: &str) -> Text {
     Text::from(alloc, s).expect(rt, "memory")
 }
 
@@ -243,7 +244,7 @@ fn given(rt: &impl Abort, alloc: Global) -> List<Value> {
 }
 
 /// The text of the value, or of the refusal. The call is one step.
-fn told<L: Ledger>(rt: &impl Abort, alloc: Global, e: &Expr, steps: &mut Steps<L>) -> Text
+pub fn told<L: Ledger>(rt: &impl Abort, alloc: Global, e: &Expr, steps: &mut Steps<L>) -> Text
     ensures { steps.new ≡ steps.old + 1 }
 {
     let env = given(rt, alloc);
@@ -291,6 +292,7 @@ fn check_all<L: Ledger>(rt: &impl Abort, alloc: Global, blank: Blank)
     ] {
         check_rows(rt, alloc, rows, &mut steps);
     }
+    check_replaced(rt, alloc, &mut steps);
 }
 
 #[test]

@@ -5,6 +5,7 @@ ghost use Rattle.std.proofs.Common.{refl};
 ghost use Rattle.og_frac.specs.laws.Orders.{total_order_total, total_order_equal};
 ghost use Rattle.std.specs.Cmp.{partial_order_from_agreeing_total};
 ghost use Rattle.og_frac.specs.Frac.{IsExact};
+ghost use Rattle.og_frac.specs.Fitting.{lesser, greater};
 ghost use Rattle.og_frac.specs.Text.{text};
 
 use crate::fault::FracFault;
@@ -155,6 +156,26 @@ impl Frac {
     {
         let num = multiply(i128::from(self.num), i128::from(by.num));
         fit(num, u128::from(self.den) * u128::from(by.den))
+    }
+
+    /// The lesser of the two, and the first where neither is less.
+    pub fn lesser(self, other: Frac) -> Frac
+        ensures { result ≡ lesser self other }
+    {
+        match self.cmp(&other) {
+            Ordering::Greater => other,
+            _ => self,
+        }
+    }
+
+    /// The greater of the two, and the first where neither is greater.
+    pub fn greater(self, other: Frac) -> Frac
+        ensures { result ≡ greater self other }
+    {
+        match self.cmp(&other) {
+            Ordering::Less => other,
+            _ => self,
+        }
     }
 
     /// The quotient, or what is given for it where the divisor is 0: one greatest common divisor, of the

@@ -1,6 +1,6 @@
 -- Values: when two are equal, and in which order they stand. Each `step` is the rule for one form of
 -- value, whose parts are already what the definition gives of them.
-use Rattle.std.specs.Prelude.{Bool, true, false, ◌==◌, ◌&&◌}
+use Rattle.std.specs.Prelude.{ℕ, Bool, true, false, ◌==◌, ◌&&◌, Option, Some, None, slice_get}
 use Rattle.std.specs.Ordering.{nat_cmp, bool_cmp, int_eq, ordering_then}
 use Rattle.std.specs.Cmp.Lexicographic.{pointwise, slice_cmp}
 use Rattle.std.specs.declared.cmp.Ordering.{Ordering}
@@ -49,3 +49,14 @@ order_step (one.Tuple parts) _ = Greater
 
 abbrev pub order : Value → Value → Ordering
 order = fold-Value (Value → Ordering) (λ v w. order_step v (out-Value w))
+
+-- ---- what a value has by its form
+
+abbrev pub flag_of : Value → Option Bool
+flag_of v = elim (out-Value v) [ one.Flag flag ↦ Some flag | _ ↦ None ]
+
+abbrev pub number_of : Value → Option Fraction
+number_of v = elim (out-Value v) [ one.Number number ↦ Some number | _ ↦ None ]
+
+abbrev pub part_of : ℕ → Value → Option Value
+part_of k v = elim (out-Value v) [ one.Tuple parts ↦ slice_get parts k | _ ↦ None ]

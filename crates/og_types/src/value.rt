@@ -1,6 +1,6 @@
 ghost use Rattle.std.specs.Prelude.{◌≡◌, ◌↔◌, IfOk, IsTrue};
 ghost use Rattle.std.specs.Cmp.Lexicographic.{slice_cmp};
-ghost use Rattle.og_types.specs.Value.{same, order};
+ghost use Rattle.og_types.specs.Value.{same, order, number_of};
 
 use og_frac::Frac;
 use og_list::List;
@@ -31,6 +31,16 @@ impl Value {
             Value::Flag(flag) => Ok(Value::Flag(*flag)),
             Value::Number(number) => Ok(Value::Number(*number)),
             Value::Tuple(parts) => Ok(Value::Tuple(copy_values(alloc, parts)?)),
+        }
+    }
+
+    /// The number, of a value that is one.
+    pub fn as_number(&self) -> Option<Frac>
+        ensures { result ≡ number_of self.now }
+    {
+        match self {
+            Value::Number(number) => Some(*number),
+            _ => None,
         }
     }
 

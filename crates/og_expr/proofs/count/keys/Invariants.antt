@@ -1,7 +1,11 @@
-use Rattle.std.proofs.Common.{◌≡◌, map, take, sum_by}
-use Rattle.og_expr.specs.Counts.{nodes_of, capped}
+use Rattle.std.proofs.Common.{◌≡◌, map, take}
+use Rattle.std.specs.Prelude.{max}
+use Rattle.og_expr.specs.Parts.{all_together}
+use Rattle.og_expr.specs.Counts.{nodes_of, height_of, plus, capped}
 use Rattle.og_expr.specs.Levels.{key_with}
 use Rattle.og_expr.proofs.count.keys.Given as goal
 
 abbrev pub invariant-parts : goal.invariant-parts
-invariant-parts l = l.many ≡ capped (sum_by (λ key. key.expr) (map (key_with nodes_of) (take l.part-index l.parts)))
+invariant-parts l =
+    (l.size.nodes ≡ capped (all_together 0 plus (λ key. key.expr) (map (key_with nodes_of) (take l.part-index l.parts))))
+    × (l.size.height ≡ capped (all_together 0 max (λ key. key.expr) (map (key_with height_of) (take l.part-index l.parts))))

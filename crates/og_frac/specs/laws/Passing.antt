@@ -1,4 +1,4 @@
--- What fits, and what an operation on fractions then answers.
+-- What an exact answer of a call on fractions says of its number, for calls that answer nothing where it doesn't fit.
 use Rattle.std.proofs.Common.{◌≡◌, ◌^◌, true, Some, None, Result, Ok, Err, cond, ◌∙◌, ap, subst, inl, inr}
 use Rattle.std.specs.Prelude.{nat_lt, unsigned_abs, ◌&&◌}
 use Rattle.std.proofs.lemmas.Bool.{lt-ltb, ltb-true, and_parts, and_from, cases_Bool}
@@ -6,7 +6,7 @@ use Rattle.og_frac.specs.Fraction.{Fraction, Fits}
 use Rattle.og_frac.specs.Frac.{IsExact}
 use Rattle.og_frac.specs.declared.fault.FracFault.{FracFault}
 use Rattle.og_frac.specs.declared.fault.FracFault.TheVariants.{Zero, Passes}
-use Rattle.og_expr.specs.Values.{fitting}
+use Rattle.og_frac.specs.Fitting.{fitting}
 
 -- the tests of `fitting`
 fits_true : (q : Fraction) → Fits q → (nat_lt (unsigned_abs q.numerator) (2 ^ 63) && nat_lt q.denominator (2 ^ 63)) ≡ true

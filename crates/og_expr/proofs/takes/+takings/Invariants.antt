@@ -1,0 +1,31 @@
+use Rattle.std.proofs.Common.{◌≡◌, true, map, drop}
+use Rattle.og_expr.specs.Parts.{all_together, addend_part, factor_part, choice_parts}
+use Rattle.og_expr.specs.Levels.{addend_with, factor_with, choice_with, key_with}
+use Rattle.og_expr.specs.Variables.{all_variables, and_also}
+use Rattle.og_expr.specs.Replaced.{takes}
+use Rattle.og_expr.proofs.takes.+takings.Given as goal
+
+abbrev pub invariant-parts-those : goal.invariant-parts-those
+invariant-parts-those l =
+    all_together true and_also (λ b. b) (map (all_variables (takes l.trees)) (drop l.e-index l.those))
+    ≡ all_together true and_also (λ b. b) (map (all_variables (takes l.trees)) l.those)
+
+abbrev pub invariant-addends-those : goal.invariant-addends-those
+invariant-addends-those l =
+    all_together true and_also addend_part (map (addend_with (all_variables (takes l.trees))) (drop l.one-index l.those))
+    ≡ all_together true and_also addend_part (map (addend_with (all_variables (takes l.trees))) l.those)
+
+abbrev pub invariant-factors-those : goal.invariant-factors-those
+invariant-factors-those l =
+    all_together true and_also (factor_part true) (map (factor_with (all_variables (takes l.trees))) (drop l.one-index l.those))
+    ≡ all_together true and_also (factor_part true) (map (factor_with (all_variables (takes l.trees))) l.those)
+
+abbrev pub invariant-choices-those : goal.invariant-choices-those
+invariant-choices-those l =
+    all_together true and_also (choice_parts and_also) (map (choice_with (all_variables (takes l.trees))) (drop l.one-index l.those))
+    ≡ all_together true and_also (choice_parts and_also) (map (choice_with (all_variables (takes l.trees))) l.those)
+
+abbrev pub invariant-keys-those : goal.invariant-keys-those
+invariant-keys-those l =
+    all_together true and_also (λ key. key.expr) (map (key_with (all_variables (takes l.trees))) (drop l.one-index l.those))
+    ≡ all_together true and_also (λ key. key.expr) (map (key_with (all_variables (takes l.trees))) l.those)
