@@ -1,0 +1,11 @@
+pub mod Answered
+pub mod Mechanisms
+pub mod Laws
+pub mod Ports
+pub mod PortsEquality
+pub mod Options
+pub mod Lawful
+pub mod Gives
+pub mod Block
+pub mod Library
+pub mod Asked
