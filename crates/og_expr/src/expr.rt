@@ -1,7 +1,7 @@
 use crate::copy::copy;
+use crate::every::{Trees, VariableTest, every_variable};
 use crate::node::{Node, NodeOf, Term};
 use crate::replace::replace;
-use crate::takes::takes;
 use crate::variables::variables;
 use og_list::List;
 use og_types::Ty;
@@ -91,6 +91,7 @@ impl Expr {
     {
         self.nodes
     }
+
     /// How high it is, or 2^32 - 1 where it is higher: 1 where it has no parts, and one more than its highest
     /// part elsewhere.
     pub fn height(&self) -> u32
@@ -104,7 +105,14 @@ impl Expr {
     pub fn takes(&self, trees: &List<Expr>) -> bool
         ensures { result ≡ all_variables (takes trees.now) self.now }
     {
-        takes(self, trees)
+        every_variable(self, &Trees { trees })
+    }
+
+    /// Whether each variable that occurs passes the test.
+    pub fn every_variable<T: VariableTest>(&self, test: &T) -> bool
+        ensures { result ≡ all_variables (T.passes test.now) self.now }
+    {
+        every_variable(self, test)
     }
 
     /// The expression in which each variable is replaced by the list's tree at the variable's number, where there
