@@ -2,9 +2,11 @@ ghost use Rattle.std.specs.Prelude.{◌≡◌, ◌<◌, IfOk, map, string_bytes}
 ghost use Rattle.std.specs.Vec.Iter.{into_iter_items};
 ghost use Rattle.std.specs.Process.{exit_status};
 ghost use Rattle.og_tool.specs.Codes.{code_of};
+ghost use Rattle.og_tool.specs.declared.status.Status.TheVariants.{Memory};
 ghost use Rattle.og.specs.Told.{Ended, words_told};
 
 use og_io::{Files, Sink};
+use og_native::Library;
 use og_steps::Steps;
 use og_tool::{Status, run};
 use std::alloc::{AllocError, Global};
@@ -47,10 +49,18 @@ fn exit_code_of(status: Status) -> ExitCode
     ExitCode::from(status.code())
 }
 
+/// The exit code where there is no memory for what the program needs before its words.
+pub(crate) fn no_memory() -> ExitCode
+    ensures { exit_status result ≡ code_of Memory }
+{
+    exit_code_of(Status::Memory)
+}
+
 /// Runs the words that the host told, with a counter of steps of its own, and gives the exit code.
 pub(crate) fn run_told<F: Files, O: Sink, L: Ledger>(
     alloc: Global,
     told: io::Result<Args>,
+    _library: &Library,
     files: &mut F,
     out: &mut O,
     blank: Blank,

@@ -6,3 +6,4 @@ pub mod GivesLaws
 pub mod LawfulLaws
 pub mod NamesLaws
 pub mod PortsLaws
+pub mod Inside

@@ -9,3 +9,4 @@ pub mod Gives
 pub mod Block
 pub mod Library
 pub mod Asked
+pub mod Shipped

@@ -32,17 +32,26 @@ are_both ports both = are_inputs ports both.0 && are_returns ports both.1
 
 -- ---- types at ports
 
--- A text can write the type without naming an enum: ranges of words that aren't empty, tuples of two types or more.
-abbrev pub is_written_step : Ty-F Bool → Bool
-is_written_step (one.Enum family cases) = false
-is_written_step one.Bool = true
-is_written_step (one.Range low high) =
+abbrev pub is_formed_step : Ty-F Bool → Bool
+is_formed_step (one.Enum family cases) = nat_lt 0 cases
+is_formed_step one.Bool = true
+is_formed_step (one.Range low high) =
     int_le low high && (nat_lt (unsigned_abs low) (2 ^ 63) && nat_lt (unsigned_abs high) (2 ^ 63))
-is_written_step (one.Tuple parts) = nat_le 2 (length parts) && list_all (λ part. part) parts
-is_written_step one.Number = true
+is_formed_step (one.Tuple parts) = nat_le 2 (length parts) && list_all (λ part. part) parts
+is_formed_step one.Number = true
 
-abbrev pub is_written : Ty → Bool
-is_written = fold-Ty Bool is_written_step
+-- Its enums have a case, its ranges a number, with bounds that a text can write, and its tuples two types or more.
+abbrev pub is_formed : Ty → Bool
+is_formed = fold-Ty Bool is_formed_step
+
+abbrev pub is_plain_step : Ty-F Bool → Bool
+is_plain_step (one.Enum family cases) = false
+is_plain_step (one.Tuple parts) = list_all (λ part. part) parts
+is_plain_step _ = true
+
+-- No enum stands in the type.
+abbrev pub is_plain : Ty → Bool
+is_plain = fold-Ty Bool is_plain_step
 
 abbrev pub height_step : Ty-F ℕ → ℕ
 height_step (one.Tuple parts) = highest parts + 1
@@ -64,12 +73,16 @@ nodes_step _ = 1
 abbrev pub nodes : Ty → ℕ
 nodes = fold-Ty ℕ nodes_step
 
--- A wire of a game may have the type: a text can write it, it is at most 8 high and of at most 32 nodes, and it has at
--- most 4,096 values if it is finite.
-abbrev pub is_port : Ty → Bool
-is_port t =
-    is_written t && (nat_le (height t) 8 && (nat_le (nodes t) 32
+-- A wire of a game may have the type: it is formed, at most 8 high and of at most 32 nodes, and it has at most 4,096
+-- values if it is finite.
+abbrev pub is_wire : Ty → Bool
+is_wire t =
+    is_formed t && (nat_le (height t) 8 && (nat_le (nodes t) 32
     && (if is_finite t then nat_le (length (values_of t)) 4096 else true)))
+
+-- A block may have the type at a port: every game can write it.
+abbrev pub is_port : Ty → Bool
+is_port t = is_plain t && is_wire t
 
 abbrev pub are_types : List Ty → Bool
 are_types ts = nat_le (length ts) 256 && list_all is_port ts

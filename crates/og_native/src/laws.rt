@@ -1,10 +1,14 @@
 //! Laws of the mechanisms, in the words of those who design them. No call here does anything: its
 //! clauses are the laws.
-ghost use Rattle.std.specs.Prelude.{◌≡◌, ◌↔◌, ◌<◌, true, false, pos, Some};
+ghost use Rattle.std.specs.Prelude.{◌≡◌, ◌↔◌, List, true, false, pos, Some};
 ghost use Rattle.og_frac.specs.Fraction.{Fraction, IsFrac, whole, sum, difference};
 ghost use Rattle.og_native.specs.declared.auction.Tie.{Tie};
+ghost use Rattle.og_types.specs.declared.value.Value.{Value};
 ghost use Rattle.og_native.specs.declared.auction.Winner.TheVariants as winners;
+ghost use Rattle.og_native.specs.declared.mechanism.Mechanism.{Mechanism};
 ghost use Rattle.og_native.specs.Mechanisms.{winner, is_below, second_price, share};
+ghost use Rattle.og_native.specs.Ports.{are_outputs, are_feedback};
+ghost use Rattle.og_native.specs.Shipped.{ports_of, played, payoffs};
 
 /// The winner of an auction bids at least the reserve, and no less than the other. Nobody wins exactly
 /// where both bids are below the reserve.
@@ -31,4 +35,12 @@ pub fn own_bids()
 pub fn shares()
     ensures { (x y s : Fraction) → IsFrac x → IsFrac y → share x y ≡ Some s
         → sum s (difference (whole (pos 1)) s) ≡ whole (pos 1) }
+{}
+
+/// What a mechanism answers is of its ports.
+pub fn at_ports()
+    ensures plays { (m : Mechanism) (inputs answer : List Value) → played m inputs ≡ Some answer
+        → are_outputs (ports_of m) answer ≡ true }
+    ensures pays { (m : Mechanism) (inputs returns answer : List Value) → payoffs m inputs returns ≡ Some answer
+        → are_feedback (ports_of m) answer ≡ true }
 {}

@@ -2,7 +2,8 @@
 //!
 //! A `StoredLens` keeps two boxed closures and the fact that they answer what some law says, so that a block is
 //! known by its law alone. A `Library` has blocks under names that differ, and answers by their numbers. Three
-//! auctions and a split are there with their laws; the closures that call them are written where they are boxed.
+//! auctions and a split are there with their laws, by themselves and as the `Mechanism`s that a program brings; the
+//! closures that call them are written where they are boxed.
 #![tactic(auto)]
 
 mod auction;
@@ -11,6 +12,7 @@ mod fault;
 mod law;
 pub mod laws;
 mod library;
+mod mechanism;
 mod numbers;
 mod ports;
 mod split;
@@ -21,6 +23,7 @@ pub use blocks::Blocks;
 pub use fault::NativeFault;
 pub use law::Law;
 pub use library::{Library, LibraryFault};
+pub use mechanism::{Mechanism, shipped};
 pub use ports::{Ports, auction_ports, split_ports};
 pub use split::Split;
 pub use stored::{Pay, Play, StoredLens};
