@@ -53,12 +53,13 @@ is_plain_step _ = true
 abbrev pub is_plain : Ty → Bool
 is_plain = fold-Ty Bool is_plain_step
 
+-- the greatest, and 0 where there is none
+abbrev pub highest : List ℕ → ℕ
+highest [] = 0
+highest (n ∷ ns) = max n (highest ns)
+
 abbrev pub height_step : Ty-F ℕ → ℕ
 height_step (one.Tuple parts) = highest parts + 1
-  where
-    highest : List ℕ → ℕ
-    highest [] = 0
-    highest (n ∷ ns) = max n (highest ns)
 height_step _ = 1
 
 -- 1, and for a tuple one more than its highest component

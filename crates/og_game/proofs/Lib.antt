@@ -1,0 +1,4 @@
+pub mod Sizes
+pub mod Forms
+pub mod Formed
+pub mod Weights
