@@ -8,6 +8,7 @@ use Rattle.og_types.specs.Ty.{is_finite}
 use Rattle.og_types.specs.Values.{values_of, joint_values_of}
 use Rattle.og_native.specs.declared.ports.Ports.{Ports}
 use Rattle.og_native.specs.Ports.{is_wire, same_types, same_ports}
+use Rattle.og_native.specs.Ports as size
 use Rattle.og_game.specs.declared.node.GameNodeOf.{GameNodeOf}
 use Rattle.og_game.specs.declared.node.GameNodeOf.TheVariants as nodes
 use Rattle.og_game.specs.declared.node.BlockOf.{BlockOf}
@@ -25,6 +26,14 @@ abbrev pub ports_if : Bool → Ports → Option Ports
 ports_if holds ports = if holds then Some ports else None
 
 -- ---- types
+
+-- at most 8 high and of at most 32 nodes
+abbrev pub is_small : Ty → Bool
+is_small t = nat_le (size.height t) 8 && nat_le (size.nodes t) 32
+
+-- at most 4,096 values, if it is finite
+abbrev pub has_few_values : Ty → Bool
+has_few_values t = if is_finite t then nat_le (length (values_of t)) 4096 else true
 
 abbrev pub are_wires : List Ty → Bool
 are_wires = list_all is_wire

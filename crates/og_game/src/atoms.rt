@@ -53,8 +53,8 @@ pub(crate) fn joined(
     Ok(types)
 }
 
-/// What a decision's actions are given, where its sets are right.
-fn are_sets(observes: &List<Ty>, action: &Ty, allowed: &Option<List<List<u32>>>) -> bool
+/// Whether a decision's types and its sets of allowed actions are right.
+fn is_decision(observes: &List<Ty>, action: &Ty, allowed: &Option<List<List<u32>>>) -> bool
     ensures { result ≡ is_decision observes.now action.now allowed.now }
 {
     match (observations(observes), choices(action)) {
@@ -74,6 +74,7 @@ fn decision_ports(alloc: Global, observes: &List<Ty>, action: &Ty) -> Result<Por
     })
 }
 
+/// Whether a nature's types, its scale and its rows are right.
 fn is_nature(observes: &List<Ty>, outcome: &Ty, scale: u64, rows: &List<List<(u32, u64)>>) -> bool
     ensures { result ≡ is_nature observes.now outcome.now scale rows.now }
 {
@@ -195,7 +196,7 @@ pub(crate) fn decision(
     ensures { IfOk result (λ found. found
         ≡ ports_if (is_decision observes.now action.now allowed.now) (decision_ports observes.now action.now)) }
 {
-    let holds = are_sets(observes, action, allowed);
+    let holds = is_decision(observes, action, allowed);
     Ok(ports_if(holds, decision_ports(alloc, observes, action)?))
 }
 

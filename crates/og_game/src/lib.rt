@@ -1,4 +1,9 @@
 //! Well wired games: trees whose wires fit at every level.
+//!
+//! Contracts see a game as a `Plan`: one form, a `GameNodeOf`, over plans. `Game::build` makes a game exactly where the rule
+//! of its form gives it ports, and a `Game` keeps that, so nothing above asks for it. The rules are a table with a line for
+//! each form, in `specs/Wired.antt`; which variables an expression sees, by where they come from, stands in `Scopes.antt`,
+//! and rows and sets of ranks in `Rows.antt`. `Origin`, `Variable` and `Stand` are what these definitions speak of.
 #![tactic(auto)]
 
 mod atoms;
@@ -14,3 +19,4 @@ mod types;
 pub use game::{Game, GameFault};
 pub use node::{Arm, ArmOf, Block, BlockOf, GameNode, GameNodeOf, Line, LineOf, Plan, Typed};
 pub use scope::{Origin, Stand, Variable};
+pub use types::{has_few_values, is_small};

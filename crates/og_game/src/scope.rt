@@ -45,7 +45,7 @@ pub enum Stand {
 
 impl Stand {
     /// Whether a variable from there is seen.
-    fn sees(self, origin: Origin) -> bool
+    pub fn sees(self, origin: Origin) -> bool
         ensures { result ≡ whence self origin }
     {
         match (self, origin) {

@@ -1,11 +1,9 @@
 //! The types that wires of a game may have.
-ghost use Rattle.std.specs.Prelude.{◌≡◌, nat_le, map, length, sum_by, true, if◌then◌else◌};
+ghost use Rattle.std.specs.Prelude.{◌≡◌, map, sum_by};
 ghost use Rattle.std.specs.List.{list_all};
-ghost use Rattle.og_types.specs.Ty.{is_finite};
-ghost use Rattle.og_types.specs.Values.{values_of};
 ghost use Rattle.og_expr.specs.Counts.{capped};
 ghost use Rattle.og_native.specs.Ports.{is_formed, height, highest, nodes, is_wire};
-ghost use Rattle.og_game.specs.Wired.{are_wires, are_few_wires, are_observed, is_chosen, observations, values, number_if};
+ghost use Rattle.og_game.specs.Wired.{is_small, has_few_values, are_wires, are_few_wires, are_observed, is_chosen, observations, values, number_if};
 
 use og_list::List;
 use og_types::{Ty, joint_count};
@@ -85,9 +83,17 @@ fn size_of(ty: &Ty) -> Size
     }
 }
 
+/// Whether it is at most 8 high and has at most 32 nodes.
+pub fn is_small(ty: &Ty) -> bool
+    ensures { result ≡ is_small ty.now }
+{
+    let size = size_of(ty);
+    size.height <= 8 && size.nodes <= 32
+}
+
 /// Whether it has at most 4,096 values, if it is finite.
-fn has_few_values(ty: &Ty) -> bool
-    ensures { result ≡ (if is_finite ty.now then nat_le (length (values_of ty.now)) 4096 else true) }
+pub fn has_few_values(ty: &Ty) -> bool
+    ensures { result ≡ has_few_values ty.now }
 {
     match ty.count() {
         Some(many) => many <= 4096,
@@ -99,8 +105,7 @@ fn has_few_values(ty: &Ty) -> bool
 pub(crate) fn is_wire(ty: &Ty) -> bool
     ensures { result ≡ is_wire ty.now }
 {
-    let size = size_of(ty);
-    is_formed(ty) && (size.height <= 8 && (size.nodes <= 32 && has_few_values(ty)))
+    is_formed(ty) && (is_small(ty) && has_few_values(ty))
 }
 
 pub(crate) fn are_wires(types: &List<Ty>) -> bool

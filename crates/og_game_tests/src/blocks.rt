@@ -4,6 +4,7 @@ use crate::equal::check_equal;
 use og_expr::{Expr, NodeOf};
 use og_game::{ArmOf, BlockOf, Game, GameFault, GameNodeOf, LineOf, Typed};
 use og_list::{Boxed, List};
+use og_native::Ports;
 use og_types::Ty;
 use std::alloc::Global;
 use std::process::Abort;
@@ -58,6 +59,49 @@ fn functions(rt: HostRuntime) {
         } else {
             Err(GameFault::BadWiring)
         };
+        check_equal(&rt, told(Game::build(alloc, node)), want);
+        let node = GameNodeOf::Backward {
+            params: types(&rt, alloc, params),
+            results: typed(&rt, alloc, result, written),
+        };
+        let want = if goes {
+            Ok((0, 1, 0, 1))
+        } else {
+            Err(GameFault::BadWiring)
+        };
+        check_equal(&rt, told(Game::build(alloc, node)), want);
+    }
+}
+
+/// So many numbers as inputs of a block of the host program, what it gives, and whether that goes.
+const NATIVES: [(usize, &[u8], bool); 5] = [
+    (2, b"r", true),
+    (0, b"", true),
+    (256, b"e", true),
+    (257, b"r", false),
+    (2, b"d", false),
+];
+
+#[test]
+fn natives(rt: HostRuntime) {
+    let alloc = rt.alloc();
+    for (many, outputs, goes) in NATIVES {
+        let mut inputs = List::new(alloc);
+        for _ in 0..many {
+            inputs.add(Ty::Number).expect(&rt, "memory");
+        }
+        let ports = Ports {
+            inputs,
+            feedback: List::new(alloc),
+            outputs: types(&rt, alloc, outputs),
+            returns: List::new(alloc),
+        };
+        let want = if goes {
+            Ok((many, 0, outputs.len(), 0))
+        } else {
+            Err(GameFault::BadWiring)
+        };
+        let node = GameNodeOf::Native { block: 0, ports };
         check_equal(&rt, told(Game::build(alloc, node)), want);
     }
 }
