@@ -1,5 +1,7 @@
+use crate::copy::copy;
 use crate::node::{GameNode, GameNodeOf, Plan};
 use og_native::Ports;
+use std::alloc::{AllocError, Global};
 use std::marker::Model;
 
 /// Why a form doesn't make a game.
@@ -47,7 +49,7 @@ impl Model for Game {
 }
 
 impl Game {
-    ghost use Rattle.std.specs.Prelude.{◌≡◌, Some};
+    ghost use Rattle.std.specs.Prelude.{◌≡◌, Some, IfOk};
     ghost use Rattle.og_game.specs.Plans.{plan_of};
     ghost use Rattle.og_game.specs.Wired.{ports_of};
 
@@ -63,5 +65,12 @@ impl Game {
         ensures { plan_of result.now ≡ self.now }
     {
         &self.node
+    }
+
+    /// An equal game, in memory of its own.
+    pub fn copy(&self, alloc: Global) -> Result<Game, AllocError>
+        ensures { IfOk result (λ made. made ≡ self.now) }
+    {
+        copy(alloc, self)
     }
 }

@@ -10,6 +10,7 @@ mod atoms;
 mod block;
 mod branch;
 mod build;
+mod copy;
 mod game;
 mod node;
 mod rows;

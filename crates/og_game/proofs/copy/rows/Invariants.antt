@@ -1,0 +1,5 @@
+use Rattle.std.proofs.Common.{◌≡◌, take}
+use Rattle.og_game.proofs.copy.rows.Given as goal
+
+abbrev pub invariant-those : goal.invariant-those
+invariant-those l = l.all ≡ take l.row-index l.those
