@@ -3,4 +3,7 @@ pub mod Rows
 pub mod Scopes
 pub mod Wired
 pub mod Levels
+pub mod Parts
+pub mod Counts
+pub mod Choices
 pub mod Built

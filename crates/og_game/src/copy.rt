@@ -194,7 +194,13 @@ fn remade(alloc: Global, node: GameNode, like: &Game) -> Result<Game, AllocError
     ensures { IfOk result (λ made. made ≡ like.now) }
 {
     let ports = like.ports.copy(alloc)?;
-    Ok(Game { node, ports })
+    let all = numbers(alloc, &like.all)?;
+    Ok(Game {
+        node,
+        ports,
+        decisions: like.decisions,
+        all,
+    })
 }
 
 #[cycle(copies)]

@@ -1,5 +1,7 @@
+use crate::allowed::answer;
 use crate::copy::copy;
 use crate::node::{GameNode, GameNodeOf, Plan};
+use og_list::List;
 use og_native::Ports;
 use std::alloc::{AllocError, Global};
 use std::marker::Model;
@@ -19,6 +21,9 @@ pub struct Game {
     /// The outermost form.
     pub node: GameNodeOf<Game>,
     pub(crate) ports: Ports,
+    pub(crate) decisions: u32,
+    /// Of a decision without sets the ranks of its actions.
+    pub(crate) all: List<u32>,
 }
 
 impl Model for Game {
@@ -32,11 +37,15 @@ impl Model for Game {
     ghost coded = { Prim.hlevel (codes, plan.the_row.coded) };
 
     ghost use Rattle.og_game.specs.Plans.{plan_of};
+    ghost use Rattle.og_expr.specs.Counts.{capped};
     ghost use Rattle.og_game.specs.Wired.{ports_of};
+    ghost use Rattle.og_game.specs.Counts.{decisions_in};
+    ghost use Rattle.og_game.specs.Choices.{all_of};
 
     ghost view = { λ g. plan_of g.node };
 
-    ghost invariant = { λ g. ports_of (plan_of g.node) ≡ Some g.ports };
+    ghost invariant = { λ g. (ports_of (plan_of g.node) ≡ Some g.ports)
+        × (g.decisions ≡ capped (decisions_in (plan_of g.node))) × (g.all ≡ all_of (plan_of g.node)) };
 
     ghost size = { size-Plan };
 
@@ -50,8 +59,12 @@ impl Model for Game {
 
 impl Game {
     ghost use Rattle.std.specs.Prelude.{◌≡◌, Some, IfOk};
+    ghost use Rattle.std.specs.Option.{option_copied};
+    ghost use Rattle.og_expr.specs.Counts.{capped};
     ghost use Rattle.og_game.specs.Plans.{plan_of};
     ghost use Rattle.og_game.specs.Wired.{ports_of};
+    ghost use Rattle.og_game.specs.Counts.{decisions_in};
+    ghost use Rattle.og_game.specs.Choices.{allowed_of};
 
     /// The game's ports.
     pub fn ports(&self) -> &Ports
@@ -72,5 +85,24 @@ impl Game {
         ensures { IfOk result (λ made. made ≡ self.now) }
     {
         copy(alloc, self)
+    }
+
+    /// How many decisions there are, or 2^32 - 1 where there are more.
+    pub fn decisions(&self) -> u32
+        ensures { result ≡ capped (decisions_in self.now) }
+    {
+        self.decisions
+    }
+
+    /// The ranks of the actions, ascending, that the first decision in flat order with the number `d` allows at the
+    /// observation of the joint rank `seen`. `None` where there is no such decision or no such observation. It takes
+    /// no memory.
+    pub fn allowed(&self, d: u32, seen: u32) -> Option<&[u32]>
+        ensures { option_copied result ≡ allowed_of d seen self.now }
+    {
+        match answer(self, d, seen) {
+            Some(found) => found,
+            None => None,
+        }
     }
 }

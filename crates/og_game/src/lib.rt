@@ -3,14 +3,16 @@
 //! Contracts see a game as a `Plan`: one form, a `GameNodeOf`, over plans. `Game::build` makes a game exactly where the rule
 //! of its form gives it ports, and a `Game` keeps that, so nothing above asks for it. The rules are a table with a line for
 //! each form, in `specs/Wired.antt`; which variables an expression sees, by where they come from, stands in `Scopes.antt`,
-//! and rows and sets of ranks in `Rows.antt`. `Origin`, `Variable` and `Stand` are what these definitions speak of.
+//! rows and sets of ranks in `Rows.antt`, and the decisions in flat order, with what they allow, in `Choices.antt`. `Origin`, `Variable` and `Stand` are what these definitions speak of.
 #![tactic(auto)]
 
+mod allowed;
 mod atoms;
 mod block;
 mod branch;
 mod build;
 mod copy;
+mod count;
 mod game;
 mod node;
 mod rows;
