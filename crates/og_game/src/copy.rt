@@ -193,8 +193,8 @@ fn remade(alloc: Global, node: GameNode, like: &Game) -> Result<Game, AllocError
     requires { plan_of node ≡ like.now }
     ensures { IfOk result (λ made. made ≡ like.now) }
 {
-    let ports = like.ports.copy(alloc)?;
     let all = numbers(alloc, &like.all)?;
+    let ports = like.ports.copy(alloc)?;
     Ok(Game {
         node,
         ports,

@@ -20,13 +20,13 @@ fn variable(rt: &impl Abort, alloc: Global, of: Named) -> Expr {
     Expr::build(alloc, node).expect(rt, "a variable")
 }
 
-fn one(rt: &impl Abort, alloc: Global, of: Named) -> List<Expr> {
+pub fn one(rt: &impl Abort, alloc: Global, of: Named) -> List<Expr> {
     let mut all = List::new(alloc);
     all.add(variable(rt, alloc, of)).expect(rt, "memory");
     all
 }
 
-fn typed(rt: &impl Abort, alloc: Global, of: Named, ty: u8) -> List<Typed> {
+pub fn typed(rt: &impl Abort, alloc: Global, of: Named, ty: u8) -> List<Typed> {
     let mut all = List::new(alloc);
     all.add(Typed {
         expr: variable(rt, alloc, of),

@@ -91,7 +91,7 @@ const CHAINS: [(&[u8], &[u8], &[u8], &[u8], bool); 6] = [
     (b"bn", b"", b"nb", b"", false),
 ];
 
-fn boxed(rt: &impl Abort, alloc: Global, game: Game) -> Boxed<Game> {
+pub fn boxed(rt: &impl Abort, alloc: Global, game: Game) -> Boxed<Game> {
     match Boxed::new(alloc, game) {
         Ok(made) => made,
         Err(_) => panic!(rt; "memory"),
@@ -119,7 +119,7 @@ fn compositions(rt: HostRuntime) {
     check_equal(&rt, told(Game::build(alloc, node)), Ok((3, 1, 3, 1)));
 }
 
-fn sets(rt: &impl Abort, alloc: Global, of: &[&[u32]]) -> List<List<u32>> {
+pub fn sets(rt: &impl Abort, alloc: Global, of: &[&[u32]]) -> List<List<u32>> {
     let mut all = List::new(alloc);
     for ranks in of {
         let set = List::from_slice(alloc, ranks).expect(rt, "memory");

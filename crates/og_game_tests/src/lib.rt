@@ -6,4 +6,6 @@ mod blocks;
 #[cfg(test)]
 mod build;
 #[cfg(test)]
+mod choices;
+#[cfg(test)]
 mod equal;
