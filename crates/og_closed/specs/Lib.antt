@@ -1,0 +1,4 @@
+pub mod Lines
+pub mod Natures
+pub mod Families
+pub mod Closed
