@@ -1,16 +1,15 @@
 -- How many decisions a game of each form has.
-use Rattle.std.proofs.Common.{◌≡◌, ◌∙◌, ℕ, ◌+◌, List, [], ◌∷◌, map, refl, ap}
+use Rattle.std.proofs.Common.{◌≡◌, ◌∙◌, List, ap}
 use Rattle.std.specs.Prelude.{sum, sum_by}
-use Rattle.std.proofs.lemmas.List.Sums.{sum_by-cons, sum-map}
+use Rattle.std.proofs.lemmas.List.Sums.{sum-map}
 use Rattle.og_game.specs.declared.node.GameNodeOf.{GameNodeOf}
 use Rattle.og_game.specs.declared.node.GameNodeOf.TheVariants as nodes
 use Rattle.og_game.specs.declared.node.BlockOf.{BlockOf}
-use Rattle.og_game.specs.declared.node.LineOf.{LineOf}
 use Rattle.og_game.specs.declared.node.ArmOf.{ArmOf}
 use Rattle.og_game.specs.declared.node.Plan.{Plan}
 use Rattle.og_types.specs.declared.ty.Ty.{Ty}
 use Rattle.og_game.specs.Plans.{plan_of}
-use Rattle.og_game.specs.Levels.{node_with, line_with, arm_with, fold_of_node}
+use Rattle.og_game.specs.Levels.{node_with, fold_of_node}
 use Rattle.og_game.specs.Counts.{decisions_in, decisions_rule}
 use Rattle.og_game.proofs.Mapped.{operations_with, games_with}
 

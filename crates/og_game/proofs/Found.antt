@@ -1,6 +1,6 @@
 -- The first decision with a number, among those of a game, and what it allows.
-use Rattle.std.proofs.Common.{◌≡◌, ◌∙◌, ℕ, ◌+◌, ◌<◌, ◌≤◌, arith, true, length, drop, get_or, List, [], ◌∷◌, ◌++◌, map, refl, ap, sym}
-use Rattle.std.specs.Prelude.{Option, Some, None, flat_map, nat_le, ◌&&◌, if◌then◌else◌, ◌==◌}
+use Rattle.std.proofs.Common.{◌≡◌, ◌∙◌, ℕ, ◌+◌, ◌<◌, ◌≤◌, arith, true, length, drop, get_or, List, [], ◌++◌, refl, ap, sym}
+use Rattle.std.specs.Prelude.{Option, Some, None, flat_map, nat_le, ◌&&◌, ◌==◌}
 use Rattle.std.specs.Option.{option_map, option_or}
 use Rattle.std.specs.List.{list_all}
 use Rattle.std.proofs.lemmas.Bool.{and_parts}
@@ -18,7 +18,7 @@ use Rattle.og_game.specs.declared.node.ArmOf.{ArmOf}
 use Rattle.og_game.specs.declared.node.Plan.{Plan}
 use Rattle.og_game.specs.Plans.{plan_of}
 use Rattle.og_game.specs.Levels.{node_with, fold_of_node}
-use Rattle.og_game.specs.Choices.{Choice, choices_rule, choices_of, numbered, allowed_at, ranks, all_rule, all_of}
+use Rattle.og_game.specs.Choices.{Choice, choices_rule, choices_of, numbered, allowed_at, all_rule, all_of}
 use Rattle.og_game.specs.Wired.{ports_of, ports_if, observations, values, are_wires, are_observed, is_chosen, is_decision, decision_ports, number_if}
 use Rattle.og_game.specs.Rows.{are_allowed}
 use Rattle.og_game.proofs.Forms.{ports_of_node}

@@ -6,6 +6,7 @@ use crate::game::Game;
 use crate::node::{Arm, Block, GameNode, GameNodeOf, Line, Typed};
 use og_expr::Expr;
 use og_list::{Boxed, List};
+use og_native::Ports;
 use og_types::{Ty, copy_types};
 use std::alloc::{AllocError, Global};
 
@@ -89,74 +90,145 @@ fn expressions(alloc: Global, those: &List<Expr>) -> Result<List<Expr>, AllocErr
     Ok(all)
 }
 
-/// A decision as written.
+/// The game of the form, like the other, which is of an equal form.
+fn remade(alloc: Global, node: GameNode, like: &Game) -> Result<Game, AllocError>
+    requires { plan_of node ≡ like.now }
+    ensures { IfOk result (λ made. made ≡ like.now) }
+{
+    let all = numbers(alloc, &like.all)?;
+    let ports = like.ports.copy(alloc)?;
+    Ok(Game {
+        node,
+        ports,
+        decisions: like.decisions,
+        all,
+    })
+}
+
+/// A decision, like the other.
 fn decision(
     alloc: Global,
+    like: &Game,
     number: u32,
     agent: u32,
     observes: &List<Ty>,
     action: &Ty,
     sets: &Option<List<List<u32>>>,
-) -> Result<GameNode, AllocError>
-    ensures { IfOk result (λ made. made ≡ GameNodeOf.Decision number agent observes.now action.now sets.now) }
+) -> Result<Game, AllocError>
+    requires { plan_of (GameNodeOf.Decision number agent observes.now action.now sets.now) ≡ like.now }
+    ensures { IfOk result (λ made. made ≡ like.now) }
 {
-    Ok(GameNodeOf::Decision {
+    let node = GameNodeOf::Decision {
         number,
         agent,
         observes: copy_types(alloc, observes)?,
         action: action.copy(alloc)?,
         allowed: allowed(alloc, sets)?,
-    })
+    };
+    remade(alloc, node, like)
 }
 
-/// A nature as written.
+/// A nature, like the other.
 fn nature(
     alloc: Global,
+    like: &Game,
     number: u32,
     observes: &List<Ty>,
     outcome: &Ty,
     scale: u64,
     those: &List<List<(u32, u64)>>,
-) -> Result<GameNode, AllocError>
-    ensures { IfOk result (λ made. made ≡ GameNodeOf.Nature number observes.now outcome.now scale those.now) }
+) -> Result<Game, AllocError>
+    requires { plan_of (GameNodeOf.Nature number observes.now outcome.now scale those.now) ≡ like.now }
+    ensures { IfOk result (λ made. made ≡ like.now) }
 {
-    Ok(GameNodeOf::Nature {
+    let node = GameNodeOf::Nature {
         number,
         observes: copy_types(alloc, observes)?,
         outcome: outcome.copy(alloc)?,
         scale,
         rows: rows(alloc, those)?,
-    })
+    };
+    remade(alloc, node, like)
 }
 
-/// Expressions of what comes forwards, as written.
-fn forward(alloc: Global, params: &List<Ty>, those: &List<Typed>) -> Result<GameNode, AllocError>
-    ensures { IfOk result (λ made. made ≡ GameNodeOf.Forward params.now those.now) }
+/// Expressions of what comes forwards, like the other.
+fn forward(
+    alloc: Global,
+    like: &Game,
+    params: &List<Ty>,
+    those: &List<Typed>,
+) -> Result<Game, AllocError>
+    requires { plan_of (GameNodeOf.Forward params.now those.now) ≡ like.now }
+    ensures { IfOk result (λ made. made ≡ like.now) }
 {
-    Ok(GameNodeOf::Forward {
+    let node = GameNodeOf::Forward {
         params: copy_types(alloc, params)?,
         results: results(alloc, those)?,
-    })
+    };
+    remade(alloc, node, like)
 }
 
-/// Expressions of what comes backwards, as written.
-fn backward(alloc: Global, params: &List<Ty>, those: &List<Typed>) -> Result<GameNode, AllocError>
-    ensures { IfOk result (λ made. made ≡ GameNodeOf.Backward params.now those.now) }
+/// Expressions of what comes backwards, like the other.
+fn backward(
+    alloc: Global,
+    like: &Game,
+    params: &List<Ty>,
+    those: &List<Typed>,
+) -> Result<Game, AllocError>
+    requires { plan_of (GameNodeOf.Backward params.now those.now) ≡ like.now }
+    ensures { IfOk result (λ made. made ≡ like.now) }
 {
-    Ok(GameNodeOf::Backward {
+    let node = GameNodeOf::Backward {
         params: copy_types(alloc, params)?,
         results: results(alloc, those)?,
-    })
+    };
+    remade(alloc, node, like)
 }
 
-/// Wires that pass, as written.
-fn identity(alloc: Global, forward: &List<Ty>, backward: &List<Ty>) -> Result<GameNode, AllocError>
-    ensures { IfOk result (λ made. made ≡ GameNodeOf.Id forward.now backward.now) }
+/// A block of the host program, like the other.
+fn native(alloc: Global, like: &Game, block: u32, ports: &Ports) -> Result<Game, AllocError>
+    requires { plan_of (GameNodeOf.Native block ports.now) ≡ like.now }
+    ensures { IfOk result (λ made. made ≡ like.now) }
 {
-    Ok(GameNodeOf::Id {
+    let ports = ports.copy(alloc)?;
+    remade(alloc, GameNodeOf::Native { block, ports }, like)
+}
+
+/// Wires that pass, like the other.
+fn identity(
+    alloc: Global,
+    like: &Game,
+    forward: &List<Ty>,
+    backward: &List<Ty>,
+) -> Result<Game, AllocError>
+    requires { plan_of (GameNodeOf.Id forward.now backward.now) ≡ like.now }
+    ensures { IfOk result (λ made. made ≡ like.now) }
+{
+    let node = GameNodeOf::Id {
         forward: copy_types(alloc, forward)?,
         backward: copy_types(alloc, backward)?,
-    })
+    };
+    remade(alloc, node, like)
+}
+
+/// One game after another, like the other.
+fn in_turn(alloc: Global, like: &Game, left: Game, right: Game) -> Result<Game, AllocError>
+    requires { plan_of (GameNodeOf.Seq left right) ≡ like.now }
+    ensures { IfOk result (λ made. made ≡ like.now) }
+{
+    let left = boxed_game(alloc, left)?;
+    let right = boxed_game(alloc, right)?;
+    remade(alloc, GameNodeOf::Seq(left, right), like)
+}
+
+/// One game beside another, like the other.
+fn beside(alloc: Global, like: &Game, left: Game, right: Game) -> Result<Game, AllocError>
+    requires { plan_of (GameNodeOf.Par left right) ≡ like.now }
+    ensures { IfOk result (λ made. made ≡ like.now) }
+{
+    let left = boxed_game(alloc, left)?;
+    let right = boxed_game(alloc, right)?;
+    remade(alloc, GameNodeOf::Par(left, right), like)
 }
 
 /// The line as written, with an equal operation.
@@ -173,10 +245,11 @@ fn line(alloc: Global, one: &Line, operation: Game) -> Result<Line, AllocError>
     })
 }
 
-/// The block as written, with equal lines.
-fn block(alloc: Global, one: &Block, lines: List<Line>) -> Result<GameNode, AllocError>
-    requires { lines ≡ one.now.lines }
-    ensures { IfOk result (λ made. made ≡ GameNodeOf.Block one.now) }
+/// A block of these lines, like the other.
+fn block(alloc: Global, like: &Game, one: &Block, lines: List<Line>) -> Result<Game, AllocError>
+    requires same { plan_of (GameNodeOf.Block one.now) ≡ like.now }
+    requires lines { lines ≡ one.now.lines }
+    ensures { IfOk result (λ made. made ≡ like.now) }
 {
     let made = Block {
         inputs: copy_types(alloc, &one.inputs)?,
@@ -185,22 +258,16 @@ fn block(alloc: Global, one: &Block, lines: List<Line>) -> Result<GameNode, Allo
         outputs: results(alloc, &one.outputs)?,
         returns: copy_types(alloc, &one.returns)?,
     };
-    Ok(GameNodeOf::Block(boxed_block(alloc, made)?))
+    remade(alloc, GameNodeOf::Block(boxed_block(alloc, made)?), like)
 }
 
-/// The game of the form, which is wired as one that it makes.
-fn remade(alloc: Global, node: GameNode, like: &Game) -> Result<Game, AllocError>
-    requires { plan_of node ≡ like.now }
+/// A branch of these arms, like the other.
+fn branch(alloc: Global, like: &Game, selector: &Ty, arms: List<Arm>) -> Result<Game, AllocError>
+    requires { plan_of (GameNodeOf.Branch selector.now arms) ≡ like.now }
     ensures { IfOk result (λ made. made ≡ like.now) }
 {
-    let all = numbers(alloc, &like.all)?;
-    let ports = like.ports.copy(alloc)?;
-    Ok(Game {
-        node,
-        ports,
-        decisions: like.decisions,
-        all,
-    })
+    let selector = selector.copy(alloc)?;
+    remade(alloc, GameNodeOf::Branch { selector, arms }, like)
 }
 
 #[cycle(copies)]
@@ -239,69 +306,38 @@ pub(crate) fn copy(alloc: Global, game: &Game) -> Result<Game, AllocError>
             observes,
             action,
             allowed,
-        } => remade(
-            alloc,
-            decision(alloc, *number, *agent, observes, action, allowed)?,
-            game,
-        ),
+        } => decision(alloc, game, *number, *agent, observes, action, allowed),
         GameNodeOf::Nature {
             number,
             observes,
             outcome,
             scale,
             rows,
-        } => remade(
-            alloc,
-            nature(alloc, *number, observes, outcome, *scale, rows)?,
-            game,
-        ),
-        GameNodeOf::Forward { params, results } => {
-            remade(alloc, forward(alloc, params, results)?, game)
+        } => nature(alloc, game, *number, observes, outcome, *scale, rows),
+        GameNodeOf::Forward { params, results } => forward(alloc, game, params, results),
+        GameNodeOf::Backward { params, results } => backward(alloc, game, params, results),
+        GameNodeOf::Native { block, ports } => native(alloc, game, *block, ports),
+        GameNodeOf::Id { forward, backward } => identity(alloc, game, forward, backward),
+        GameNodeOf::Seq(left, right) => {
+            let first = copy(alloc, left.get())?;
+            let second = copy(alloc, right.get())?;
+            in_turn(alloc, game, first, second)
         }
-        GameNodeOf::Backward { params, results } => {
-            remade(alloc, backward(alloc, params, results)?, game)
+        GameNodeOf::Par(left, right) => {
+            let first = copy(alloc, left.get())?;
+            let second = copy(alloc, right.get())?;
+            beside(alloc, game, first, second)
         }
-        GameNodeOf::Native { block, ports } => remade(
-            alloc,
-            GameNodeOf::Native {
-                block: *block,
-                ports: ports.copy(alloc)?,
-            },
-            game,
-        ),
-        GameNodeOf::Id { forward, backward } => {
-            remade(alloc, identity(alloc, forward, backward)?, game)
-        }
-        GameNodeOf::Seq(left, right) => remade(
-            alloc,
-            GameNodeOf::Seq(
-                boxed_game(alloc, copy(alloc, left.get())?)?,
-                boxed_game(alloc, copy(alloc, right.get())?)?,
-            ),
-            game,
-        ),
-        GameNodeOf::Par(left, right) => remade(
-            alloc,
-            GameNodeOf::Par(
-                boxed_game(alloc, copy(alloc, left.get())?)?,
-                boxed_game(alloc, copy(alloc, right.get())?)?,
-            ),
-            game,
-        ),
         GameNodeOf::Block(one) => {
             let made = lines(alloc, &one.get().lines)?;
-            remade(alloc, block(alloc, one.get(), made)?, game)
+            block(alloc, game, one.get(), made)
         }
         GameNodeOf::Branch {
             selector,
             arms: those,
-        } => remade(
-            alloc,
-            GameNodeOf::Branch {
-                selector: selector.copy(alloc)?,
-                arms: arms(alloc, those)?,
-            },
-            game,
-        ),
+        } => {
+            let made = arms(alloc, those)?;
+            branch(alloc, game, selector, made)
+        }
     }
 }
