@@ -36,7 +36,7 @@ abbrev pub case_names : Enums → List (List ℕ)
 case_names enums = flat_map (λ f. f.cases) enums.families
 
 pub record IsClosed (c : ClosedPlan) : Type 0 where
-  pub no_ports : ports_of c.game ≡ Some no_ports
+  pub portless : ports_of c.game ≡ Some no_ports
   pub few_lines : flat_lines c.game ≤ 4096
   pub decisions_follow : Follow (map (λ choice. choice.number) (choices_of c.game))
   pub natures_follow : Follow (map (λ nature. nature.number) (natures_of c.game))

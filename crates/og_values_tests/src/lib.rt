@@ -1,5 +1,5 @@
-//! Tests of the crates of values, by their public calls alone: lists and texts, fractions, types, and
-//! the counter of steps.
+//! Tests of the crates of values, by their public calls alone: lists and texts, tables of names,
+//! fractions, types, and the counter of steps.
 #![tactic(auto)]
 
 #[cfg(test)]
@@ -8,6 +8,8 @@ mod equal;
 mod fractions;
 #[cfg(test)]
 mod lists;
+#[cfg(test)]
+mod names;
 #[cfg(test)]
 mod steps;
 #[cfg(test)]
