@@ -1,0 +1,6 @@
+pub mod TypeLevels
+pub mod ValueLevels
+pub mod Walked
+pub mod Tables
+pub mod Sized
+pub mod Used

@@ -1,0 +1,10 @@
+pub mod Checked
+pub mod Types
+pub mod Values
+pub mod Scopes
+pub mod Levels
+pub mod Expressions
+pub mod Forms
+pub mod Sizes
+pub mod Uses
+pub mod Variables

@@ -1,0 +1,66 @@
+use std::alloc::AllocError;
+use thiserror::Error;
+
+/// Why a program is refused: the first rule that is broken, with its place in the text.
+#[derive(Clone, Copy, Debug, PartialEq, Eq, Drop, Error)]
+pub enum WireFault {
+    /// A name has no declaration of the kind that is wanted.
+    #[error("Unknown at {0}")]
+    Unknown(u32),
+    /// A name is declared already.
+    #[error("Twice at {0}")]
+    Twice(u32),
+    /// Something hasn't the type that is wanted there.
+    #[error("WrongType at {0}")]
+    WrongType(u32),
+    /// There are more or fewer parts than are wanted.
+    #[error("WrongCount at {0}")]
+    WrongCount(u32),
+    /// A type has a number in it where its values are listed.
+    #[error("NotFinite at {0}")]
+    NotFinite(u32),
+    /// A forward expression names what comes backwards.
+    #[error("BackwardInForward at {0}")]
+    BackwardInForward(u32),
+    /// A line's return names what goes back from the same or an earlier line.
+    #[error("FeedbackTooEarly at {0}")]
+    FeedbackTooEarly(u32),
+    /// The weights of a row don't add up to one.
+    #[error("NotOne at {0}")]
+    NotOne(u32),
+    /// Rows are missing.
+    #[error("MissingRow at {0}")]
+    MissingRow(u32),
+    /// Something has a row already.
+    #[error("RowTwice at {0}")]
+    RowTwice(u32),
+    /// The whole game has a port.
+    #[error("NotClosed at {0}")]
+    NotClosed(u32),
+    /// A type has more than 4,096 values.
+    #[error("TooManyValues at {0}")]
+    TooManyValues(u32),
+    /// A type, an expression or a game is too high or has too many nodes.
+    #[error("TooBig at {0}")]
+    TooBig(u32),
+    /// The whole game has more than 4,096 lines.
+    #[error("TooManyLines at {0}")]
+    TooManyLines(u32),
+    /// A scale is 2^62 or more.
+    #[error("ScaleTooLarge at {0}")]
+    ScaleTooLarge(u32),
+    /// There was no memory.
+    #[error("no memory")]
+    Memory,
+}
+
+impl From<AllocError> for WireFault {
+    ghost use Rattle.std.specs.Prelude.{◌≡◌};
+    ghost use Rattle.og_typing.specs.declared.fault.WireFault.TheVariants.{Memory};
+
+    ghost from_gives = { λ _ e. e ≡ Memory };
+
+    fn from(_e: AllocError) -> WireFault {
+        WireFault::Memory
+    }
+}

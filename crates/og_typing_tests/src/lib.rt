@@ -1,0 +1,7 @@
+//! Tests of what a text's types and functions are, by public calls alone.
+#![tactic(auto)]
+
+#[cfg(test)]
+mod declared;
+#[cfg(test)]
+mod equal;
