@@ -1,4 +1,6 @@
 //! Which forms make games, and with which ports.
+ghost use Rattle.std.specs.Prelude.{◌≡◌};
+
 use crate::equal::check_equal;
 use og_game::{Game, GameFault, GameNodeOf};
 use og_list::{Boxed, List};
@@ -91,7 +93,9 @@ const CHAINS: [(&[u8], &[u8], &[u8], &[u8], bool); 6] = [
     (b"bn", b"", b"nb", b"", false),
 ];
 
-pub fn boxed(rt: &impl Abort, alloc: Global, game: Game) -> Boxed<Game> {
+pub fn boxed(rt: &impl Abort, alloc: Global, game: Game) -> Boxed<Game>
+    ensures { result ≡ game }
+{
     match Boxed::new(alloc, game) {
         Ok(made) => made,
         Err(_) => panic!(rt; "memory"),

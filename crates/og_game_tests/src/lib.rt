@@ -8,4 +8,6 @@ mod build;
 #[cfg(test)]
 mod choices;
 #[cfg(test)]
+mod closed;
+#[cfg(test)]
 mod equal;
