@@ -20,13 +20,13 @@ fn variable(rt: &impl Abort, alloc: Global, of: Named) -> Expr {
     Expr::build(alloc, node).expect(rt, "a variable")
 }
 
-pub fn one(rt: &impl Abort, alloc: Global, of: Named) -> List<Expr> {
+fn one(rt: &impl Abort, alloc: Global, of: Named) -> List<Expr> {
     let mut all = List::new(alloc);
     all.add(variable(rt, alloc, of)).expect(rt, "memory");
     all
 }
 
-pub fn typed(rt: &impl Abort, alloc: Global, of: Named, ty: u8) -> List<Typed> {
+fn typed(rt: &impl Abort, alloc: Global, of: Named, ty: u8) -> List<Typed> {
     let mut all = List::new(alloc);
     all.add(Typed {
         expr: variable(rt, alloc, of),

@@ -1,6 +1,4 @@
 //! Which forms make games, and with which ports.
-ghost use Rattle.std.specs.Prelude.{◌≡◌};
-
 use crate::equal::check_equal;
 use og_game::{Game, GameFault, GameNodeOf};
 use og_list::{Boxed, List};
@@ -93,9 +91,7 @@ const CHAINS: [(&[u8], &[u8], &[u8], &[u8], bool); 6] = [
     (b"bn", b"", b"nb", b"", false),
 ];
 
-pub fn boxed(rt: &impl Abort, alloc: Global, game: Game) -> Boxed<Game>
-    ensures { result ≡ game }
-{
+fn boxed(rt: &impl Abort, alloc: Global, game: Game) -> Boxed<Game> {
     match Boxed::new(alloc, game) {
         Ok(made) => made,
         Err(_) => panic!(rt; "memory"),
@@ -123,7 +119,7 @@ fn compositions(rt: HostRuntime) {
     check_equal(&rt, told(Game::build(alloc, node)), Ok((3, 1, 3, 1)));
 }
 
-pub fn sets(rt: &impl Abort, alloc: Global, of: &[&[u32]]) -> List<List<u32>> {
+fn sets(rt: &impl Abort, alloc: Global, of: &[&[u32]]) -> List<List<u32>> {
     let mut all = List::new(alloc);
     for ranks in of {
         let set = List::from_slice(alloc, ranks).expect(rt, "memory");

@@ -6,8 +6,4 @@ mod blocks;
 #[cfg(test)]
 mod build;
 #[cfg(test)]
-mod choices;
-#[cfg(test)]
-mod closed;
-#[cfg(test)]
 mod equal;
