@@ -9,7 +9,8 @@ pub mod laws;
 mod terms;
 mod wide;
 
+pub use divisor::greatest_common_divisor;
 pub use fault::{FracFault, SumFault};
 pub use frac::Frac;
-pub use terms::{Sum, Term};
+pub use terms::{Sum, Term, least_common_multiple};
 pub use wide::Wide;

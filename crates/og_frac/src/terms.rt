@@ -34,7 +34,7 @@ pub struct Sum {
 /// The least common multiple of two numbers below 2^63, which is below 2^126: one greatest common
 /// divisor.
 #[tactic(auto, using(crate::proofs::Divisors::greatest_common_divisor_positive), unfolding(crate::specs::Fraction::least_common_multiple))]
-fn least_common_multiple(first: u64, second: u64) -> u128
+pub fn least_common_multiple(first: u64, second: u64) -> u128
     requires first { first < 2 ^ 63 }
     requires second { second < 2 ^ 63 }
     requires positive { 0 < second }

@@ -1,9 +1,10 @@
 //! Declarations of types and functions.
-ghost use Rattle.std.specs.Prelude.{◌≡◌, replicate, IfOk};
+ghost use Rattle.std.specs.Prelude.{◌≡◌, false, replicate, IfOk, OnOk, OnErr};
+ghost use Rattle.og_names.specs.Names.{has_name};
 ghost use Rattle.og_typing.specs.Checked.{Walks, Updates};
 ghost use Rattle.og_typing.specs.Scopes.{names_of};
 ghost use Rattle.og_typing.specs.Uses.{uses_in};
-ghost use Rattle.og_typing.specs.Variables.{whole_walk, around_of, is_free, params_walk, cases_walk, enum_walk, alias_walk, body_walk, function_of, function_with, function_walk, function_declared};
+ghost use Rattle.og_typing.specs.Variables.{whole_walk, around_of, is_free, variable_walk, params_walk, cases_walk, enum_walk, alias_walk, body_walk, function_of, function_with, function_walk, function_declared};
 
 use crate::expressions::walk;
 use crate::fault::WireFault;
@@ -31,12 +32,31 @@ pub fn walk_whole(alloc: Global, e: &ExprTree, scope: &Scope<'_>) -> Result<Kind
 }
 
 /// Whether nothing has the name yet.
-fn is_free(around: &Around<'_>, variables: &Names<Variable>, name: &str) -> bool
+pub fn is_free(around: &Around<'_>, variables: &Names<Variable>, name: &str) -> bool
     ensures { result ≡ is_free (around_of around.now) variables.now name.now }
 {
     let declared = around.declared.has(name) || name == around.own;
     let given = around.given.has(name) || variables.has(name);
     !(declared || given)
+}
+
+/// Whether a variable may have the name, of those that are there.
+pub fn free_variable(
+    around: &Around<'_>,
+    variables: &Names<Variable>,
+    at: u32,
+    name: &str,
+) -> Result<(), WireFault>
+    ensures walks { Walks (variable_walk (around_of around.now) variables.now at name.now) result }
+    ensures free { OnOk result (has_name name.now variables.now ≡ false) }
+{
+    if !is_free(around, variables, name) {
+        return Err(WireFault::Twice(at));
+    }
+    if variables.len() >= 4_294_967_295 {
+        return Err(WireFault::TooBig(at));
+    }
+    Ok(())
 }
 
 /// Parameters in order, behind the variables that are there.
@@ -55,12 +75,7 @@ pub fn walk_params(
     } = found;
     'params: for param in params.as_slice() {
         let name = param.name.as_str();
-        if !is_free(around, &variables, name) {
-            return Err(WireFault::Twice(param.at));
-        }
-        if variables.len() >= 4_294_967_295 {
-            return Err(WireFault::TooBig(param.at));
-        }
+        free_variable(around, &variables, param.at, name)?;
         let ty = walk_type(alloc, &param.ty, around.declared)?;
         types.add(ty.copy(alloc)?)?;
         variables.insert(alloc, name, Variable { ty, origin })?;
@@ -122,7 +137,8 @@ pub fn declare_alias(
     written: &TyTree,
     declared: &mut Names<Meaning>,
 ) -> Result<(), WireFault>
-    ensures { Updates (alias_walk at name.now declared.old written.now) result declared.new }
+    ensures declared { Updates (alias_walk at name.now declared.old written.now) result declared.new }
+    ensures refused { OnErr result (declared.new ≡ declared.old) }
 {
     if declared.has(name) {
         return Err(WireFault::Twice(at));
@@ -252,7 +268,8 @@ pub fn declare_function(
     body: &ExprTree,
     declared: &mut Names<Meaning>,
 ) -> Result<(), WireFault>
-    ensures { Updates (function_declared number at name.now declared.old params.now written.now body.now) result declared.new }
+    ensures declared { Updates (function_declared number at name.now declared.old params.now written.now body.now) result declared.new }
+    ensures refused { OnErr result (declared.new ≡ declared.old) }
 {
     if declared.has(name) {
         return Err(WireFault::Twice(at));

@@ -64,3 +64,56 @@ impl From<AllocError> for WireFault {
         WireFault::Memory
     }
 }
+
+impl WireFault {
+    ghost use Rattle.std.specs.Prelude.{◌≡◌};
+    ghost use Rattle.og_typing.specs.Faults.{code_of, place_of};
+
+    /// The broken rule's name.
+    pub fn code(self) -> &'static str
+        ensures { result.now ≡ code_of self }
+    {
+        match self {
+            WireFault::Unknown(_) => "Unknown",
+            WireFault::Twice(_) => "Twice",
+            WireFault::WrongType(_) => "WrongType",
+            WireFault::WrongCount(_) => "WrongCount",
+            WireFault::NotFinite(_) => "NotFinite",
+            WireFault::BackwardInForward(_) => "BackwardInForward",
+            WireFault::FeedbackTooEarly(_) => "FeedbackTooEarly",
+            WireFault::NotOne(_) => "NotOne",
+            WireFault::MissingRow(_) => "MissingRow",
+            WireFault::RowTwice(_) => "RowTwice",
+            WireFault::NotClosed(_) => "NotClosed",
+            WireFault::TooManyValues(_) => "TooManyValues",
+            WireFault::TooBig(_) => "TooBig",
+            WireFault::TooManyLines(_) => "TooManyLines",
+            WireFault::ScaleTooLarge(_) => "ScaleTooLarge",
+            WireFault::Memory => "Memory",
+        }
+    }
+
+    /// The place where it is broken, in bytes from the start. Want of memory has the place 0.
+    pub fn place(self) -> u32
+        ensures { result ≡ place_of self }
+    {
+        match self {
+            WireFault::Unknown(at)
+            | WireFault::Twice(at)
+            | WireFault::WrongType(at)
+            | WireFault::WrongCount(at)
+            | WireFault::NotFinite(at)
+            | WireFault::BackwardInForward(at)
+            | WireFault::FeedbackTooEarly(at)
+            | WireFault::NotOne(at)
+            | WireFault::MissingRow(at)
+            | WireFault::RowTwice(at)
+            | WireFault::NotClosed(at)
+            | WireFault::TooManyValues(at)
+            | WireFault::TooBig(at)
+            | WireFault::TooManyLines(at)
+            | WireFault::ScaleTooLarge(at) => at,
+            WireFault::Memory => 0,
+        }
+    }
+}

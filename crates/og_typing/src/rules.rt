@@ -185,8 +185,8 @@ pub(crate) fn key_type(
     Ok(ty)
 }
 
-/// How many joint values the keys of a table have, where they are finite and these are at most 4,096.
-pub(crate) fn key_count(types: &List<Ty>) -> Option<u32>
+/// How many joint values the types have, of a table's keys or of what is observed, where they are finite and these are at most 4,096.
+pub fn key_count(types: &List<Ty>) -> Option<u32>
     ensures keys { IfSome result (λ _. are_keys types.now ≡ true) }
     ensures count { IfSome result (λ n. length (joint_values_of types.now) ≡ n) }
     ensures small { IfSome result (λ _. AreSmall types.now) }

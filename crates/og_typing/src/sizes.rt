@@ -10,7 +10,8 @@ use crate::meaning::{Meaning, Scope};
 use og_list::List;
 use og_syntax::{ExprTree, IfArm, ProductPart, ResultTree, SumPart, TableRow};
 
-pub(crate) fn plus(m: u32, n: u32) -> u32
+/// A sum that stands still at 2^32 - 1.
+pub fn plus(m: u32, n: u32) -> u32
     ensures { result ≡ plus m n }
 {
     m.saturating_add(n)
@@ -23,7 +24,7 @@ pub(crate) fn times(m: u32, n: u32) -> u32
 }
 
 /// A count that stands still at 2^32 - 1.
-pub(crate) fn count_of(n: usize) -> u32
+pub fn count_of(n: usize) -> u32
     ensures { result ≡ capped n }
 {
     n.min(4_294_967_295) as u32

@@ -40,7 +40,11 @@ fn case_named(at: u32, found: Option<&Meaning>) -> Result<Value, WireFault>
 /// The value that a written value stands for, of whatever type.
 #[cycle(meaning)]
 #[tactic(auto, using(crate::proofs::ValueLevels::tuple_meant))]
-fn meant(alloc: Global, value: &ValueTree, declared: &Names<Meaning>) -> Result<Value, WireFault>
+pub fn meant(
+    alloc: Global,
+    value: &ValueTree,
+    declared: &Names<Meaning>,
+) -> Result<Value, WireFault>
     ensures { Walks (meant value.now declared.now) result }
 {
     match value {

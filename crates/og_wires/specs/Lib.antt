@@ -1,0 +1,9 @@
+pub mod Sites
+pub mod Levels
+pub mod Forms
+pub mod Arguments
+pub mod Rows
+pub mod Atoms
+pub mod Wires
+pub mod Games
+pub mod Programs
