@@ -1,3 +1,4 @@
+pub mod Accepted
 pub mod Blocks
 pub mod Scales
 pub mod Walked

@@ -198,3 +198,15 @@ Breaks blocks p fault = program_walk blocks p ≡ Err fault
 abbrev pub WiresOrBreaks : Blocks → Program → Result (Unit {0}) WireFault → Type 0
 WiresOrBreaks blocks p (Ok _) = IsWired blocks p
 WiresOrBreaks blocks p (Err fault) = fault ≢ Memory → Breaks blocks p fault
+
+-- A game `main` is declared, without parameters and without ports, and is as large as it may be at most.
+pub record HasMain (known : Declarations) : Type 0 where
+  pub number : ℕ
+  pub game : DeclaredGame
+  pub named : lookup (codes "main") known.declared ≡ Some (meanings.Game number)
+  pub kept : slice_get known.games number ≡ Some game
+  pub no_params : (length game.params == 0) ≡ true
+  pub closed : is_closed game.kind.ports ≡ true
+  pub few_lines : nat_le game.kind.size.lines 4096 ≡ true
+  pub light : nat_le game.kind.size.weight 1048576 ≡ true
+  pub small_scale : nat_lt game.kind.size.scale (2 ^ 62) ≡ true

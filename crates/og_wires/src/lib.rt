@@ -13,6 +13,7 @@ mod block;
 mod branch;
 mod games;
 mod kind;
+pub mod laws;
 mod place;
 mod programs;
 mod rows;
