@@ -13,8 +13,14 @@ SIZES = [262_144, 524_288, 1_048_575]
 RUNS = 25
 
 
+# A declaration that breaks a rule, so that what comes behind the reading ends there.
+BROKEN = 'type a = b;'
+
+
 def repeated(front, piece, end):
-    """As many pieces as fit, between the front and the end, and blanks up to the length."""
+    """As many pieces as fit, between the front and the end, behind the broken declaration, and blanks up to the length."""
+    front = BROKEN + front
+
     def make(length):
         count = (length - len(front) - len(end)) // len(piece)
         return (front + piece * count + end).ljust(length, ' ')
@@ -55,11 +61,11 @@ def measure(make):
         for size in SIZES:
             text = make(size)
             # The same tokens behind one at which no declaration begins: nothing is read behind the tokens.
-            for front, wanted in (('', 'NotBuilt'), (';', 'Syntax')):
+            for front, wanted in (('', 'Unknown at 1:10'), (';', 'Syntax at 1:1')):
                 path = os.path.join(room, '%d%s' % (size, front))
                 with open(path, 'w') as file:
                     file.write(front + text)
-                cases.append((path, 'refused game %s at 1:1\n' % wanted))
+                cases.append((path, 'refused game %s\n' % wanted))
         rounds = [[run(path, wanted) for path, wanted in cases] for _ in range(RUNS)]
     best = [(min(r[k][0] for r in rounds), max(r[k][1] for r in rounds)) for k in range(len(cases))]
     return list(zip(SIZES, best[::2], best[1::2]))

@@ -8,6 +8,7 @@ use Rattle.std.specs.declared.vec.IntoIter.{IntoIter}
 use Rattle.std.specs.declared.io.Error.{Error}
 use Rattle.std.specs.declared.process.ExitCode.{ExitCode}
 use Rattle.og_tool.specs.declared.status.Status.{Status}
+use Rattle.og_wires.specs.Sites.{Blocks}
 use Rattle.og_tool.specs.Codes.{code_of}
 use Rattle.og_tool.specs.Ran.{Outside, Ran}
 
@@ -17,7 +18,7 @@ words_told (Ok words) = drop 1 (map string_bytes (into_iter_items words))
 words_told (Err error) = []
 
 -- A run of the words, and the exit code of its status.
-pub record Ended (words : List (List ℕ)) (before after : Outside) (exit : ExitCode) : Type 0 where
+pub record Ended (blocks : Blocks) (words : List (List ℕ)) (before after : Outside) (exit : ExitCode) : Type 0 where
   pub status : Status
-  pub ran : Ran words before after status
+  pub ran : Ran blocks words before after status
   pub code : exit_status exit ≡ code_of status

@@ -2,6 +2,7 @@ ghost use Rattle.std.specs.Prelude.{◌≡◌, ◌<◌, IfOk, map, string_bytes}
 ghost use Rattle.std.specs.Vec.Iter.{into_iter_items};
 ghost use Rattle.std.specs.Process.{exit_status};
 ghost use Rattle.og_tool.specs.Codes.{code_of};
+ghost use Rattle.og_wires.specs.Sites.{blocks_of};
 ghost use Rattle.og_tool.specs.declared.status.Status.TheVariants.{Memory};
 ghost use Rattle.og.specs.Told.{Ended, words_told};
 
@@ -60,7 +61,7 @@ pub(crate) fn no_memory() -> ExitCode
 pub(crate) fn run_told<F: Files, O: Sink, L: Ledger>(
     alloc: Global,
     told: io::Result<Args>,
-    _library: &Library,
+    library: &Library,
     files: &mut F,
     out: &mut O,
     blank: Blank,
@@ -68,7 +69,7 @@ pub(crate) fn run_told<F: Files, O: Sink, L: Ledger>(
     requires name { blank.name ≡ L.name }
     requires parts { blank.parts ≡ L.parts }
     requires some { 0 < L.parts }
-    ensures { Ended (words_told told)
+    ensures { Ended (blocks_of library.now.blocks.items) (words_told told)
         (record { files = F.state files.old; out = O.state out.old })
         (record { files = F.state files.new; out = O.state out.new }) result }
 {
@@ -76,5 +77,5 @@ pub(crate) fn run_told<F: Files, O: Sink, L: Ledger>(
         return exit_code_of(Status::Memory);
     };
     let mut steps = Steps::<L>::start(blank);
-    exit_code_of(run(alloc, words.as_slice(), files, out, &mut steps))
+    exit_code_of(run(alloc, words.as_slice(), files, out, library, &mut steps))
 }

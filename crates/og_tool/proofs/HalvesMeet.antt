@@ -6,6 +6,7 @@ use Rattle.og_io.specs.Outside.{FilesState, KeepsHeld, GrowsBy, GrowsAtMost, Onl
 use Rattle.og_small.specs.declared.tree.SmallGame.{SmallGame}
 use Rattle.og_tool.specs.declared.answer.Answer.{Answer}
 use Rattle.og_tool.specs.declared.answer.GameStep.TheVariants.{Accepted, Refused}
+use Rattle.og_wires.specs.Sites.{Blocks}
 use Rattle.og_tool.specs.Command.{Command}
 use Rattle.og_tool.specs.Ran.{ReadsAll, AnswersWords}
 use Rattle.og_tool.specs.Held.{MayHold, HeldHas}
@@ -58,13 +59,13 @@ reads_none before = record { loads = λ name. omega arith; no_fault = λ name. r
 
 -- ---- answers
 
-module _ (command : Command) (before middle after : FilesState) (answer : Answer) where
-  pub game_refused : StepsToGame command.game before after (Refused answer) → AnswersWords (Some command) before after answer
+module _ (blocks : Blocks) (command : Command) (before middle after : FilesState) (answer : Answer) where
+  pub game_refused : StepsToGame blocks command.game before after (Refused answer) → AnswersWords blocks (Some command) before after answer
   game_refused (inl misses) = inl misses
   game_refused (inr stops) = inr (inl stops)
 
-  pub game_accepted : (tree : SmallGame) → KeepsHeld before middle → StepsToGame command.game before middle (Accepted tree)
-      → StepsToStrategy tree command.strategy middle after answer → AnswersWords (Some command) before after answer
+  pub game_accepted : (tree : SmallGame) → KeepsHeld before middle → StepsToGame blocks command.game before middle (Accepted tree)
+      → StepsToStrategy tree command.strategy middle after answer → AnswersWords blocks (Some command) before after answer
   game_accepted tree kept (reads, (game, game_held, is_game)) (inl (fails, refusal)) =
       inr (inr (inl (record {
         fails = record {

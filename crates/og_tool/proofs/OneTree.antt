@@ -8,7 +8,9 @@ use Rattle.og_texts.specs.Texts.{HasTokens}
 use Rattle.og_small.specs.declared.tree.SmallGame.{SmallGame}
 use Rattle.og_small.specs.declared.tree.Section.{Section}
 use Rattle.og_read.specs.Spelled.{SpellsGame, SpellsStrategy}
-use Rattle.og_tool.specs.Texts.{IsSmallGame, IsSmallStrategy, IsGame, IsStrategy, FindsGame, FindsStrategy, ReadsGame, ReadsStrategy}
+use Rattle.og_wires.specs.Sites.{Blocks}
+use Rattle.og_wires.specs.Programs.{IsWired}
+use Rattle.og_tool.specs.Texts.{IsSmallGame, IsSmallStrategy, IsGame, IsStrategy, IsMiswired, FindsGame, FindsStrategy, ReadsGame, ReadsStrategy}
 use Rattle.og_tool.proofs.OneRow.{OneLexing, same_tokens}
 
 -- what the readers' own crate says
@@ -38,14 +40,19 @@ module _ (lexing : OneLexing) (text : List ℕ) where
   same_strategy law one other s t =
       law text t.is_file.tokens one other (strategy_at t.is_file.tokens t.is_file.has_tokens one s).spelled t.is_small.spelled
 
-  game_found : (ts : List Token) (has : HasTokens text ts) (p : Program) → ParsesProgram text ts (Ok p)
-      → (found : Option SmallGame) → FindsGame text ts found → ReadsGame text (Ok found)
-  game_found ts has p parsed (Some tree) is =
-      record { program = p; is_program = record { tokens = ts; has_tokens = has; parsed = parsed }; is_small = is }
-  game_found ts has p parsed None none = record {
-    program = p;
-    is_program = record { tokens = ts; has_tokens = has; parsed = parsed };
-    none = λ tree g. none tree (game_at ts has tree g);
+  game_found : (blocks : Blocks) (ts : List Token) (has : HasTokens text ts) (p : Program) → ParsesProgram text ts (Ok p)
+      → IsWired blocks p → (found : Option SmallGame) → FindsGame text ts found → ReadsGame blocks text (Ok found)
+  game_found blocks ts has p parsed wired (Some tree) is = record {
+    is_game = record { program = p; is_program = record { tokens = ts; has_tokens = has; parsed = parsed }; is_small = is };
+    wired = wired;
+  }
+  game_found blocks ts has p parsed wired None none = record {
+    no_game = record {
+      program = p;
+      is_program = record { tokens = ts; has_tokens = has; parsed = parsed };
+      none = λ tree g. none tree (game_at ts has tree g);
+    };
+    wired = wired;
   }
 
   strategy_found : (ts : List Token) (has : HasTokens text ts) (p : StrategyFile) → ParsesStrategy text ts (Ok p)
@@ -59,11 +66,11 @@ module _ (lexing : OneLexing) (text : List ℕ) where
   }
 
   -- the same of the text and the slice that the readers were lent
-  pub game_read : (ts : List Token) (has : HasTokens text ts) (p : Program) → ParsesProgram text ts (Ok p)
-      → (lent : List ℕ) (slice : List Token) → lent ≡ text → slice ≡ ts
-      → (found : Option SmallGame) → FindsGame lent slice found → ReadsGame text (Ok found)
-  game_read ts has p parsed lent slice same all found is =
-      game_found ts has p parsed found
+  pub game_read : (blocks : Blocks) (ts : List Token) (has : HasTokens text ts) (p : Program) → ParsesProgram text ts (Ok p)
+      → IsWired blocks p → (lent : List ℕ) (slice : List Token) → lent ≡ text → slice ≡ ts
+      → (found : Option SmallGame) → FindsGame lent slice found → ReadsGame blocks text (Ok found)
+  game_read blocks ts has p parsed wired lent slice same all found is =
+      game_found blocks ts has p parsed wired found
       (subst (λ (us : List Token). FindsGame text us found) all (subst (λ (s : List ℕ). FindsGame s slice found) same is))
 
   pub strategy_read : (ts : List Token) (has : HasTokens text ts) (p : StrategyFile) → ParsesStrategy text ts (Ok p)

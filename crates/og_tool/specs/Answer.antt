@@ -15,7 +15,10 @@ use Rattle.og_syntax.specs.declared.strategies.StrategyFile.{StrategyFile}
 use Rattle.og_tool.specs.declared.status.Status.{Status}
 use Rattle.og_tool.specs.declared.status.Status.TheVariants as ends
 use Rattle.og_tool.specs.declared.answer.Answer.{Answer}
-use Rattle.og_tool.specs.Texts.{IsGame, IsNoGame, IsStrategy}
+use Rattle.og_typing.specs.declared.fault.WireFault.{WireFault}
+use Rattle.og_typing.specs.Faults as wires
+use Rattle.og_wires.specs.Sites.{Blocks}
+use Rattle.og_tool.specs.Texts.{IsWiredGame, IsUnbuilt, IsMiswired, IsStrategy}
 
 -- An answer has the bytes to write, and the status to end with where all of them are written.
 
@@ -24,11 +27,17 @@ pub record IsRefusal (end : Status) (why : List ℕ) (answer : Answer) : Type 0 
   pub status : answer.status ≡ end
   pub bytes : answer.bytes ≡ codes "refused " ++ (why ++ 10 ∷ [])
 
--- what refuses the text for a fault: which text it is, the fault's name, its line and its column
+-- what refuses the text for a fault of this name at this place: which text it is, the name, the line and the column
+abbrev pub named_at : List ℕ → List ℕ → List ℕ → ℕ → List ℕ
+named_at which text code place =
+    which ++ (codes " " ++ (code ++ (codes " at " ++ (decimal (line_of text place)
+    ++ (codes ":" ++ decimal (column_of text place))))))
+
 abbrev pub fault_at : List ℕ → List ℕ → TextFault → List ℕ
-fault_at which text fault =
-    which ++ (codes " " ++ (code_of fault ++ (codes " at " ++ (decimal (line_of text (place_of fault))
-    ++ (codes ":" ++ decimal (column_of text (place_of fault)))))))
+fault_at which text fault = named_at which text (code_of fault) (place_of fault)
+
+abbrev pub wire_fault_at : List ℕ → WireFault → List ℕ
+wire_fault_at text fault = named_at (codes "game") text (wires.code_of fault) (wires.place_of fault)
 
 -- ---- games
 
@@ -38,13 +47,20 @@ pub record RefusesFaultyGame (game : List ℕ) (answer : Answer) : Type 0 where
   pub cause : HasFault ParsesProgram game fault
   pub refusal : IsRefusal ends.GameText (fault_at (codes "game") game fault) answer
 
--- The game's text is a program, and no small game.
-pub record RefusesUnbuiltGame (game : List ℕ) (answer : Answer) : Type 0 where
-  pub cause : IsNoGame game
+-- The game's text is a program that breaks a rule of the wiring.
+pub record RefusesMiswiredGame (blocks : Blocks) (game : List ℕ) (answer : Answer) : Type 0 where
+  pub fault : WireFault
+  pub cause : IsMiswired blocks game fault
+  pub refusal : IsRefusal ends.GameText (wire_fault_at game fault) answer
+
+-- The game's text is a program that breaks no rule, and no small game.
+pub record RefusesUnbuiltGame (blocks : Blocks) (game : List ℕ) (answer : Answer) : Type 0 where
+  pub cause : IsUnbuilt blocks game
   pub refusal : IsRefusal ends.GameText (codes "game NotBuilt at 1:1") answer
 
-abbrev pub RefusesGame : List ℕ → Answer → Type 0
-RefusesGame game answer = RefusesFaultyGame game answer ⊎ RefusesUnbuiltGame game answer
+abbrev pub RefusesGame : Blocks → List ℕ → Answer → Type 0
+RefusesGame blocks game answer =
+    RefusesFaultyGame game answer ⊎ RefusesMiswiredGame blocks game answer ⊎ RefusesUnbuiltGame blocks game answer
 
 -- ---- strategies, behind an accepted game
 
@@ -81,11 +97,11 @@ AnswersStrategy tree strategy answer =
     RefusesFaultyStrategy strategy answer ⊎ RefusesUnbuiltStrategy tree strategy answer ⊎ Reports tree strategy answer
 
 -- The game's text is a small game, and the strategy's text is answered.
-pub record AcceptsGame (game strategy : List ℕ) (answer : Answer) : Type 0 where
+pub record AcceptsGame (blocks : Blocks) (game strategy : List ℕ) (answer : Answer) : Type 0 where
   pub tree : SmallGame
-  pub is_game : IsGame game tree
+  pub is_game : IsWiredGame blocks game tree
   pub answers : AnswersStrategy tree strategy answer
 
 -- what two texts are answered with
-abbrev pub Answers : List ℕ → List ℕ → Answer → Type 0
-Answers game strategy answer = RefusesGame game answer ⊎ AcceptsGame game strategy answer
+abbrev pub Answers : Blocks → List ℕ → List ℕ → Answer → Type 0
+Answers blocks game strategy answer = RefusesGame blocks game answer ⊎ AcceptsGame blocks game strategy answer

@@ -13,6 +13,12 @@ use Rattle.og_small.specs.declared.tree.SmallGame.{SmallGame}
 use Rattle.og_small.specs.declared.tree.Section.{Section}
 use Rattle.og_small.specs.Accepted.{IsAccepted}
 use Rattle.og_read.specs.Spelled.{SpellsGame, SpellsStrategy}
+use Rattle.og_typing.specs.declared.fault.WireFault.{WireFault}
+use Rattle.og_typing.specs.declared.fault.WireFault.TheVariants as wires
+use Rattle.og_wires.specs.Sites.{Blocks}
+use Rattle.og_wires.specs.Programs.{IsWired, Breaks}
+use Rattle.og_tool.specs.declared.read.GameFault.{GameFault}
+use Rattle.og_tool.specs.declared.read.GameFault.TheVariants.{Text, Wire}
 
 -- From a place on, only blanks stand round the tokens.
 abbrev pub are_gaps_blank : List ℕ → ℕ → List Token → Bool
@@ -44,6 +50,11 @@ pub record IsGame (text : List ℕ) (tree : SmallGame) : Type 0 where
   pub is_program : IsProgram text program
   pub is_small : IsSmallGame text is_program.tokens tree
 
+-- The text is a program that breaks no rule of the wiring, and is this small game.
+pub record IsWiredGame (blocks : Blocks) (text : List ℕ) (tree : SmallGame) : Type 0 where
+  pub is_game : IsGame text tree
+  pub wired : IsWired blocks is_game.program
+
 -- The text is a strategy file that is this small strategy.
 pub record IsStrategy (text : List ℕ) (sections : List Section) : Type 0 where
   pub file : StrategyFile
@@ -55,6 +66,17 @@ pub record IsNoGame (text : List ℕ) : Type 0 where
   pub program : Program
   pub is_program : IsProgram text program
   pub none : (tree : SmallGame) → IsGame text tree → ⊥
+
+-- The text is a program that breaks no rule of the wiring, and no small game that is accepted.
+pub record IsUnbuilt (blocks : Blocks) (text : List ℕ) : Type 0 where
+  pub no_game : IsNoGame text
+  pub wired : IsWired blocks no_game.program
+
+-- The text is a program that breaks this rule of the wiring first.
+pub record IsMiswired (blocks : Blocks) (text : List ℕ) (fault : WireFault) : Type 0 where
+  pub program : Program
+  pub is_program : IsProgram text program
+  pub broken : Breaks blocks program fault
 
 -- The text is a strategy file, and no small strategy.
 pub record IsNoStrategy (text : List ℕ) : Type 0 where
@@ -72,10 +94,11 @@ abbrev pub FindsStrategy : List ℕ → List Token → Option (List Section) →
 FindsStrategy text ts found =
     MatchOption found ((sections : List Section) → IsSmallStrategy text ts sections → ⊥) (IsSmallStrategy text ts)
 
-abbrev pub ReadsGame : List ℕ → Result (Option SmallGame) TextFault → Type 0
-ReadsGame text (Ok (Some tree)) = IsGame text tree
-ReadsGame text (Ok None) = IsNoGame text
-ReadsGame text (Err fault) = fault ≢ faults.Memory → HasFault ParsesProgram text fault
+abbrev pub ReadsGame : Blocks → List ℕ → Result (Option SmallGame) GameFault → Type 0
+ReadsGame blocks text (Ok (Some tree)) = IsWiredGame blocks text tree
+ReadsGame blocks text (Ok None) = IsUnbuilt blocks text
+ReadsGame blocks text (Err (Text fault)) = fault ≢ faults.Memory → HasFault ParsesProgram text fault
+ReadsGame blocks text (Err (Wire fault)) = fault ≢ wires.Memory → IsMiswired blocks text fault
 
 abbrev pub ReadsStrategy : List ℕ → Result (Option (List Section)) TextFault → Type 0
 ReadsStrategy text (Ok (Some sections)) = IsStrategy text sections

@@ -2,26 +2,74 @@ ghost use Rattle.std.specs.Prelude.{◌≡◌, ℕ, List, All, IfOk, length};
 ghost use Rattle.og_lex.specs.Spelling.{AreInOrder, IsTokenOf};
 ghost use Rattle.og_small.specs.declared.tree.SmallGame.{SmallGame};
 ghost use Rattle.og_small.specs.declared.tree.Section.{Section};
+ghost use Rattle.og_wires.specs.Sites.{blocks_of};
+ghost use Rattle.og_wires.specs.Programs.{WiresOrBreaks};
 ghost use Rattle.og_tool.specs.Texts.{IsGame, IsStrategy, FindsGame, FindsStrategy, ReadsGame, ReadsStrategy};
 
 use crate::plain::is_plain;
 use og_lex::{Token, one_lexing};
 use og_list::List;
+use og_native::Library;
 use og_read::{one_game, one_strategy, read_game, read_strategy};
 use og_small::{Section, SmallGame, accepts};
+use og_syntax::Program;
 use og_texts::{TextFault, read_program, read_strategy as read_strategy_file};
+use og_typing::WireFault;
+use og_wires::walk_program;
 use std::alloc::{AllocError, Global};
 
-/// The small game that the text is, if it is one, or the text's first fault.
-pub(crate) fn game_of(alloc: Global, bytes: &[u8]) -> Result<Option<SmallGame>, TextFault>
-    ensures { ReadsGame bytes.now result }
+/// Why a game's text is refused: for a fault of the text, or for a rule of the wiring that it breaks.
+#[derive(Clone, Copy, Debug, PartialEq, Eq)]
+pub(crate) enum GameFault {
+    Text(TextFault),
+    Wire(WireFault),
+}
+
+impl From<TextFault> for GameFault {
+    ghost use Rattle.std.specs.Prelude.{◌≡◌};
+    ghost use Rattle.og_tool.specs.declared.read.GameFault.TheVariants.{Text};
+
+    ghost from_gives = { λ fault made. made ≡ Text fault };
+
+    fn from(fault: TextFault) -> GameFault {
+        GameFault::Text(fault)
+    }
+}
+
+impl From<WireFault> for GameFault {
+    ghost use Rattle.std.specs.Prelude.{◌≡◌};
+    ghost use Rattle.og_tool.specs.declared.read.GameFault.TheVariants.{Wire};
+
+    ghost from_gives = { λ fault made. made ≡ Wire fault };
+
+    fn from(fault: WireFault) -> GameFault {
+        GameFault::Wire(fault)
+    }
+}
+
+/// The small game that the text is, if it is one, or the text's first fault, or the first rule of the wiring that it breaks.
+pub(crate) fn game_of(
+    alloc: Global,
+    bytes: &[u8],
+    library: &Library,
+) -> Result<Option<SmallGame>, GameFault>
+    ensures { ReadsGame (blocks_of library.now.blocks.items) bytes.now result }
 {
     one_lexing();
     let read = read_program(alloc, bytes)?;
+    wired(alloc, &read.tree, library)?;
     match small_game(alloc, read.text, read.tokens.as_slice()) {
         Ok(found) => Ok(found),
-        Err(_) => Err(TextFault::Memory),
+        Err(_) => Err(GameFault::Text(TextFault::Memory)),
     }
+}
+
+/// Whether the program breaks no rule of the wiring, or the first one that it breaks.
+fn wired(alloc: Global, program: &Program, library: &Library) -> Result<(), WireFault>
+    ensures { WiresOrBreaks (blocks_of library.now.blocks.items) program.now result }
+{
+    walk_program(alloc, program, library)?;
+    Ok(())
 }
 
 /// The small game that the text with these tokens is, if it is one that is accepted.

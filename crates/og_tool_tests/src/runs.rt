@@ -2,6 +2,7 @@ ghost use Rattle.std.specs.Prelude.{◌≡◌, ◌<◌};
 
 use crate::equal::check_equal;
 use og_io::{MemFiles, MemSink};
+use og_native::Library;
 use og_steps::Steps;
 use og_tool::{Status, run};
 use std::alloc::Global;
@@ -73,6 +74,7 @@ fn run_with<L: Ledger>(
     words: &[String],
     files: &mut MemFiles,
     out: &mut MemSink,
+    library: &Library,
     blank: Blank,
 ) -> Status
     requires name { blank.name ≡ L.name }
@@ -80,18 +82,28 @@ fn run_with<L: Ledger>(
     requires some { 0 < L.parts }
 {
     let mut steps = Steps::<L>::start(blank);
-    run(alloc, words, files, out, &mut steps)
+    run(alloc, words, files, out, library, &mut steps)
 }
 
-fn run_case(alloc: Global, words: &[String], files: &mut MemFiles, out: &mut MemSink) -> Status {
-    run_with::<Brand>(alloc, words, files, out, Blank::new(1))
+/// Runs the words with a library without blocks.
+fn run_case(
+    rt: &impl Abort,
+    alloc: Global,
+    words: &[String],
+    files: &mut MemFiles,
+    out: &mut MemSink,
+) -> Status {
+    match Library::new(alloc, Vec::new(alloc)) {
+        Ok(library) => run_with::<Brand>(alloc, words, files, out, &library, Blank::new(1)),
+        Err(_) => panic!(rt; "no library"),
+    }
 }
 
 /// How the case's run over its files ends.
 fn status_of(rt: &impl Abort, alloc: Global, case: &Case<'_>, out: &mut MemSink) -> Status {
     let mut files = files_of(rt, alloc, case);
     let words = words_of(rt, alloc, case.words);
-    run_case(alloc, words.as_slice(), &mut files, out)
+    run_case(rt, alloc, words.as_slice(), &mut files, out)
 }
 
 /// The run writes what the case says, and has its status.
@@ -274,23 +286,13 @@ const PENNIES: &str = "type Side = { Heads, Tails }; game main = block { :-----:
 /// Games that are refused, with the line that says why.
 const REFUSED_GAMES: &[(&str, &str)] = &[
     // Programs that are no small game.
-    ("", UNBUILT_GAME),
     (PENNIES, UNBUILT_GAME),
     (
         "// a comment\ngame main = block { :---: :---: };",
         UNBUILT_GAME,
     ),
-    ("game other = block { :---: :---: };", UNBUILT_GAME),
     (
         "game main = block { :---: :---: }; type \u{e9} = bool;",
-        UNBUILT_GAME,
-    ),
-    (
-        "type A = { main }; game main = block { :---: :---: };",
-        UNBUILT_GAME,
-    ),
-    (
-        "type A = { B, B }; game main = block { :---: :---: };",
         UNBUILT_GAME,
     ),
     (
@@ -298,20 +300,54 @@ const REFUSED_GAMES: &[(&str, &str)] = &[
         UNBUILT_GAME,
     ),
     (
-        "type A = { B }; game main = block { :---: operation : dependentDecision \"a\" [] C ; outputs : x ; returns : table (x : A) { (B) -> 1; } ; :---: };",
+        "version 2; game main = block { :---: :---: };",
         UNBUILT_GAME,
+    ),
+    // Programs that break a rule of the wiring.
+    ("", "refused game Unknown at 1:1\n"),
+    (
+        "game other = block { :---: :---: };",
+        "refused game Unknown at 1:36\n",
+    ),
+    (
+        "type A = { main }; game main = block { :---: :---: };",
+        "refused game Twice at 1:25\n",
+    ),
+    (
+        "type A = { B, B }; game main = block { :---: :---: };",
+        "refused game Twice at 1:15\n",
+    ),
+    (
+        "type A = { B }; game main = block { :---: operation : dependentDecision \"a\" [] C ; outputs : x ; returns : table (x : A) { (B) -> 1; } ; :---: };",
+        "refused game Unknown at 1:80\n",
     ),
     (
         "type A = { B, C }; game main = block { :---: operation : dependentDecision \"a\" [] A ; outputs : x ; returns : table (x : A) { (B) -> 1; } ; :---: };",
-        UNBUILT_GAME,
+        "refused game MissingRow at 1:111\n",
     ),
     (
         "type A = { B }; game main = block { :---: operation : dependentDecision \"a\" [] A ; outputs : x ; returns : table (y : A) { (B) -> 1; } ; :---: };",
-        UNBUILT_GAME,
+        "refused game Unknown at 1:115\n",
     ),
     (
-        "version 2; game main = block { :---: :---: };",
-        UNBUILT_GAME,
+        "game main = block { :---: inputs : p ; operation : identity [bool] [] ; outputs : x ; :---: returns : p : bool ; };",
+        "refused game BackwardInForward at 1:36\n",
+    ),
+    (
+        "game main = nature [] bool { () -> true : 1/2; };",
+        "refused game NotOne at 1:30\n",
+    ),
+    (
+        "game f = identity [bool] [];\ngame main = f;",
+        "refused game NotClosed at 2:6\n",
+    ),
+    (
+        "fn f(x : 3..1) : number = x; game main = block { :---: :---: };",
+        "refused game WrongType at 1:10\n",
+    ),
+    (
+        "game main = library split2;",
+        "refused game Unknown at 1:21\n",
     ),
     // Texts that are no program.
     (
@@ -451,7 +487,7 @@ fn bytes_that_are_no_text(rt: HostRuntime) {
         files.add(rt.alloc(), "s", strategy).expect(&rt, "memory");
         let mut out = MemSink::new(rt.alloc());
         let words = words_of(&rt, rt.alloc(), "check g s");
-        let ended = run_case(rt.alloc(), words.as_slice(), &mut files, &mut out);
+        let ended = run_case(&rt, rt.alloc(), words.as_slice(), &mut files, &mut out);
         check_equal(&rt, str::from_utf8(out.written()), Ok(written));
         check_equal(&rt, ended, status);
     }
