@@ -1,4 +1,4 @@
 use Rattle.og_tool_tests.proofs.runs.run_case.Given as goal
 
 abbrev pub ghosts-run_with : goal.ghosts-run_with
-ghosts-run_with a = record { name = a.blank.name; parts = a.blank.parts }
+ghosts-run_with g a = record { name = a.blank.name; parts = a.blank.parts }
