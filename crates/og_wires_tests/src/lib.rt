@@ -23,8 +23,6 @@ mod forwards;
 #[cfg(test)]
 mod functions;
 #[cfg(test)]
-mod lenses;
-#[cfg(test)]
 mod natures;
 #[cfg(test)]
 mod nested;
