@@ -59,7 +59,7 @@ all_branches : {A : Type 0} (P : A → Type 0) (choices : List (Choice A)) (e : 
 all_branches P [] e all last = (last, tt)
 all_branches P (c ∷ choices) e all last = (all.0.1, all_branches P choices e all.1 last)
 
-key_types_with : {A B : Type 0} (f : A → B) (keys : List (Key A))
+pub key_types_with : {A B : Type 0} (f : A → B) (keys : List (Key A))
     → map (λ key. key.ty) (map (key_with f) keys) ≡ map (λ key. key.ty) keys
 key_types_with f [] = refl
 key_types_with f (key ∷ keys) = ap (λ l. key.ty ∷ l) (key_types_with f keys)
@@ -80,7 +80,7 @@ NegatedRange t w =
     (low : ℤ) × (high : ℤ) × (t ≡ ty.Range low high) × (w ≡ ty.Range (pos 0 -ℤ high) (pos 0 -ℤ low))
     × (is_word low ≡ true) × (is_word high ≡ true)
 
-negated_some : (t w : Ty) → negated t ≡ Some w → NegatedRange t w ⊎ ((t ≡ ty.Number) × (w ≡ ty.Number))
+pub negated_some : (t w : Ty) → negated t ≡ Some w → NegatedRange t w ⊎ ((t ≡ ty.Number) × (w ≡ ty.Number))
 negated_some t w is = by (out-Ty t) (roll-out-Ty t) is
   where
     by : (z : Ty-F Ty) → roll-Ty z ≡ t → negated_at z ≡ Some w → NegatedRange t w ⊎ ((t ≡ ty.Number) × (w ≡ ty.Number))
@@ -107,7 +107,7 @@ component_at k z =
       | _ ↦ None
     ]
 
-component_some : (k : ℕ) (t w : Ty) → component k t ≡ Some w
+pub component_some : (k : ℕ) (t w : Ty) → component k t ≡ Some w
     → (ts : List Ty) × (t ≡ ty.Tuple ts) × (slice_get ts k ≡ Some w)
 component_some k t w is = by (out-Ty t) (roll-out-Ty t) is
   where
@@ -122,13 +122,13 @@ component_tuple k ts = ap (component_at k) (ty.outs-Tuple ts)
 -- ---- the bounds of a type
 
 -- the bounds fit, where there is a type
-abbrev Bounded : Option Ty → Type 0
+abbrev pub Bounded : Option Ty → Type 0
 Bounded o = (t : Ty) → o ≡ Some t → bounds_fit t ≡ true
 
 bounded_none : Bounded None
 bounded_none t is = absurd (none-some t is)
 
-bounded_some : (t : Ty) → bounds_fit t ≡ true → Bounded (Some t)
+pub bounded_some : (t : Ty) → bounds_fit t ≡ true → Bounded (Some t)
 bounded_some t fit w is = subst (λ u. bounds_fit u ≡ true) (same_Some t w is) fit
 
 bounded_if : (b : Bool) (o : Option Ty) → (b ≡ true → Bounded o) → Bounded (if b then o else None)
@@ -150,7 +150,7 @@ range_bounds low high p q = bounds_fit_range low high ∙ and_from (is_word low)
 opposite_small : (a : ℤ) (n : ℕ) → nat_lt (unsigned_abs a) n ≡ true → nat_lt (unsigned_abs (pos 0 -ℤ a)) n ≡ true
 opposite_small a n p = grind (arith, ints)
 
-negated_bounds : (t : Ty) → Bounded (negated t)
+pub negated_bounds : (t : Ty) → Bounded (negated t)
 negated_bounds t w is =
     elim (negated_some t w is) [
       | inl (low, high, e, same, p, q) ↦
@@ -164,7 +164,7 @@ got_bounds [] k all = bounded_none
 got_bounds (t ∷ ts) zero all = bounded_some t (and_parts (bounds_fit t) (list_all bounds_fit ts) all).0
 got_bounds (t ∷ ts) (suc k) all = got_bounds ts k (and_parts (bounds_fit t) (list_all bounds_fit ts) all).1
 
-component_bounds : (k : ℕ) (t : Ty) → bounds_fit t ≡ true → Bounded (component k t)
+pub component_bounds : (k : ℕ) (t : Ty) → bounds_fit t ≡ true → Bounded (component k t)
 component_bounds k t fit w is =
     let at_tuple = component_some k t w is in
     got_bounds at_tuple.0 k (sym (bounds_fit_tuple at_tuple.0) ∙ ap bounds_fit (sym at_tuple.1) ∙ fit) w at_tuple.2
@@ -253,25 +253,25 @@ type_bounds = term_induction (λ e. Bounded (type_of e)) (λ n all t is.
 -- ---- narrower types
 
 -- Where there is the first type, there is the second, and it fits the first.
-abbrev Narrower : Option Ty → Option Ty → Type 0
+abbrev pub Narrower : Option Ty → Option Ty → Type 0
 Narrower o p = (t : Ty) → o ≡ Some t → goes_as t p ≡ true
 
-narrower_none : (p : Option Ty) → Narrower None p
+pub narrower_none : (p : Option Ty) → Narrower None p
 narrower_none p t is = absurd (none-some t is)
 
-narrower_some : (t : Ty) (p : Option Ty) → goes_as t p ≡ true → Narrower (Some t) p
+pub narrower_some : (t : Ty) (p : Option Ty) → goes_as t p ≡ true → Narrower (Some t) p
 narrower_some t p goes w is = subst (λ u. goes_as u p ≡ true) (same_Some t w is) goes
 
-narrower_same : (o : Option Ty) → Narrower o o
+pub narrower_same : (o : Option Ty) → Narrower o o
 narrower_same None = narrower_none None
 narrower_same (Some t) = narrower_some t (Some t) (fits_itself t)
 
 -- the same of a part
-abbrev Narrows : {A : Type 0} → (A → Option Ty) → (A → Option Ty) → A → Type 0
+abbrev pub Narrows : {A : Type 0} → (A → Option Ty) → (A → Option Ty) → A → Type 0
 Narrows f g e = Narrower (f e) (g e)
 
 -- Where the first test passes, so does the second.
-abbrev Kept : Bool → Bool → Type 0
+abbrev pub Kept : Bool → Bool → Type 0
 Kept b c = b ≡ true → c ≡ true
 
 both_kept : (a b c d : Bool) → Kept a c → Kept b d → Kept (a && b) (c && d)
@@ -286,7 +286,7 @@ narrower_if false c o p kept narrower = narrower_none (if c then p else None)
 narrower_typed : (b c : Bool) (t : Ty) → Kept b c → Narrower (typed_if b t) (typed_if c t)
 narrower_typed b c t kept = narrower_if b c (Some t) (Some t) kept (narrower_same (Some t))
 
-goes_kept : (w : Ty) (o p : Option Ty) → Narrower o p → Kept (goes_as w o) (goes_as w p)
+pub goes_kept : (w : Ty) (o p : Option Ty) → Narrower o p → Kept (goes_as w o) (goes_as w p)
 goes_kept w None p narrower goes = absurd (true≢false (sym goes))
 goes_kept w (Some t) None narrower goes = absurd (true≢false (sym (narrower t refl)))
 goes_kept w (Some t) (Some u) narrower goes = fits_along u t w (narrower t refl) goes
@@ -353,7 +353,7 @@ rows_kept f g keys rows is =
 
 -- ---- joins of narrower types
 
-narrower_join : (o p u v : Option Ty) → Narrower o u → Narrower p v → Narrower (join_both o p) (join_both u v)
+pub narrower_join : (o p u v : Option Ty) → Narrower o u → Narrower p v → Narrower (join_both o p) (join_both u v)
 narrower_join None p u v first second w is = absurd (none-some w is)
 narrower_join (Some t) None u v first second w is = absurd (none-some w is)
 narrower_join (Some t) (Some s) None v first second w is = absurd (true≢false (sym (first t refl)))
@@ -421,7 +421,7 @@ narrower_tuple (Some ts) None all = absurd (true≢false (sym (all ts refl)))
 narrower_tuple (Some ts) (Some us) all =
     narrower_some (ty.Tuple ts) (Some (ty.Tuple us)) (fits_tuples us ts ∙ all ts refl)
 
-got_narrower : (us ts : List Ty) (k : ℕ) → pointwise fits us ts ≡ true → Narrower (slice_get ts k) (slice_get us k)
+pub got_narrower : (us ts : List Ty) (k : ℕ) → pointwise fits us ts ≡ true → Narrower (slice_get ts k) (slice_get us k)
 got_narrower us [] k fit = narrower_none (slice_get us k)
 got_narrower [] (t ∷ ts) k fit = absurd (true≢false (sym fit))
 got_narrower (u ∷ us) (t ∷ ts) zero fit = narrower_some t (Some u) (and_parts (fits u t) (pointwise fits us ts) fit).0
@@ -434,7 +434,7 @@ component_narrower k t u fit w is =
     ap (λ s. goes_as w (component k s)) new.1 ∙ ap (goes_as w) (component_tuple k new.0)
     ∙ got_narrower new.0 old.0 k new.2 w old.2
 
-narrower_component : (k : ℕ) (o p : Option Ty) → Narrower o p
+pub narrower_component : (k : ℕ) (o p : Option Ty) → Narrower o p
     → Narrower (option_and_then (component k) o) (option_and_then (component k) p)
 narrower_component k None p narrower = narrower_none (option_and_then (component k) p)
 narrower_component k (Some t) None narrower = absurd (true≢false (sym (narrower t refl)))
@@ -480,7 +480,7 @@ negated_narrower t u fit bounds w is =
       | inr (e, same) ↦ ap (λ s. goes_as s (negated u)) same ∙ number_narrower u (ap (fits u) (sym e) ∙ fit) bounds
     ]
 
-narrower_negated : (o p : Option Ty) → Narrower o p → Bounded p
+pub narrower_negated : (o p : Option Ty) → Narrower o p → Bounded p
     → Narrower (option_and_then negated o) (option_and_then negated p)
 narrower_negated None p narrower bounds = narrower_none (option_and_then negated p)
 narrower_negated (Some t) None narrower bounds = absurd (true≢false (sym (narrower t refl)))
@@ -502,7 +502,7 @@ compares_kept test o p u v first second = by (is_equality test)
     by false = two_kept ty.Number o p u v first second
 
 -- where the types of the parts are narrower and their bounds fit, the type of a form is narrower
-narrower_rule : {A : Type 0} (f g : A → Option Ty) → ((e : A) → Bounded (g e)) → (n : NodeOf A)
+pub narrower_rule : {A : Type 0} (f g : A → Option Ty) → ((e : A) → Bounded (g e)) → (n : NodeOf A)
     → PartsOf (Narrows f g) n → Narrower (type_rule (node_with f n)) (type_rule (node_with g n))
 narrower_rule f g bounds (nodes.Literal n) all = narrower_same (type_rule (nodes.Literal n))
 narrower_rule f g bounds (nodes.Flag flag) all = narrower_same (type_rule (nodes.Flag flag))

@@ -17,6 +17,17 @@ pub enum BuildFault {
     Memory,
 }
 
+impl From<AllocError> for BuildFault {
+    ghost use Rattle.std.specs.Prelude.{◌≡◌};
+    ghost use Rattle.og_expr.specs.declared.expr.BuildFault.TheVariants.{Memory};
+
+    ghost from_gives = { λ _ e. e ≡ Memory };
+
+    fn from(_e: AllocError) -> BuildFault {
+        BuildFault::Memory
+    }
+}
+
 /// A typed expression. Contracts see it as its form over expressions, whose type is told by the form alone.
 #[derive(Drop)]
 pub struct Expr {

@@ -4,3 +4,4 @@ pub mod Walked
 pub mod Tables
 pub mod Sized
 pub mod Used
+pub mod Steps

@@ -1,6 +1,6 @@
 -- Written expressions: the type of each, with the greatest depth in it, or the first rule that it breaks. `expr_rule` is
 -- the rule for one form, whose parts are walks already; parts are walked from left to right.
-use Rattle.std.specs.Prelude.{ℕ, ◌+◌, ◌^◌, nat_le, nat_lt, Bool, false, ◌&&◌, max, List, [], ◌∷◌, ◌++◌, length, replicate, Option, Some, None, Result, Ok, Err, ◌≡◌, ◌≢◌, slice_get}
+use Rattle.std.specs.Prelude.{ℕ, ◌+◌, ◌^◌, nat_le, nat_lt, if◌then◌else◌, Bool, false, ◌&&◌, max, List, [], ◌∷◌, ◌++◌, length, replicate, Option, Some, None, Result, Ok, Err, ◌≡◌, ◌≢◌, slice_get}
 use Rattle.std.specs.List.{list_all}
 use Rattle.og_types.specs.declared.ty.Ty.{Ty}
 use Rattle.og_types.specs.declared.ty.Ty.TheVariants as ty
@@ -131,9 +131,13 @@ negated_kind at found = do
   t ← join_found at (negated found.ty)
   Ok (kind t found.deep)
 
+-- the component at a place that a text can write
+abbrev pub written_component : ℕ → Ty → Option Ty
+written_component k t = if nat_lt k (2 ^ 63) then component k t else None
+
 -- a component, a component of it, and so on
 abbrev pub component_of : ℕ → Ty → ℕ → Checked Ty
-component_of at t k = join_found at (component k t)
+component_of at t k = join_found at (written_component k t)
 
 abbrev pub components : ℕ → Ty → List ℕ → Checked Ty
 components at = in_turn (component_of at)

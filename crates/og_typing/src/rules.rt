@@ -1,9 +1,9 @@
 //! Rules on what was found of the parts of an expression.
 ghost use Rattle.std.specs.Prelude.{◌≡◌, nat_lt, ◌^◌, ◌&&◌, length, true, false, IfOk, IfSome, IfNone};
-ghost use Rattle.og_expr.specs.Types.{negated, component};
+ghost use Rattle.og_expr.specs.Types.{negated};
 ghost use Rattle.og_types.specs.Values.{joint_values_of, AreSmall};
 ghost use Rattle.og_typing.specs.Checked.{Walks};
-ghost use Rattle.og_typing.specs.Expressions.{goes, goes_to, joined_type, joining, settled, negated_kind, components, with_kind, tuple_kind, key_type, are_keys};
+ghost use Rattle.og_typing.specs.Expressions.{goes, goes_to, joined_type, joining, settled, negated_kind, written_component, components, with_kind, tuple_kind, key_type, are_keys};
 ghost use Rattle.std.specs.Option.{option_copied};
 
 use crate::fault::WireFault;
@@ -110,10 +110,13 @@ pub(crate) fn negated_kind(at: u32, found: &Kind) -> Result<Kind, WireFault>
     }
 }
 
-/// A component's type.
+/// The type of the component at a place that a text can write.
 fn component(ty: &Ty, index: u64) -> Option<&Ty>
-    ensures { option_copied result ≡ component index ty.now }
+    ensures { option_copied result ≡ written_component index ty.now }
 {
+    if index >= 1 << 63 {
+        return None;
+    }
     match ty {
         Ty::Tuple(parts) => parts.get(index as usize),
         _ => None,

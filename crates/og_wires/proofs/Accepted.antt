@@ -8,21 +8,11 @@ use Rattle.og_typing.specs.declared.fault.WireFault.TheVariants.{TooBig, WrongCo
 use Rattle.og_typing.specs.declared.meaning.Meaning.{Meaning}
 use Rattle.og_typing.specs.declared.meaning.Meaning.TheVariants as meanings
 use Rattle.og_typing.specs.Checked.{Checked, ◌>>=◌, ◌>>◌, rule}
+use Rattle.og_typing.proofs.Steps.{bind_ok, rule_holds}
 use Rattle.og_wires.specs.declared.kind.DeclaredGame.{DeclaredGame}
 use Rattle.og_wires.specs.declared.programs.Declarations.{Declarations}
 use Rattle.og_wires.specs.Sites.{Blocks}
 use Rattle.og_wires.specs.Programs.{no_names, decls_walk, main_at, main_named, main_walk, is_closed, size_fits, main_fits, end_walk, all_walk, program_walk, IsWired, HasMain}
-
--- what a walk of two steps gives was given by both
-bind_ok : {A B : Type 0} (first : Checked A) (second : A → Checked B) (b : B) → (first >>= second) ≡ Ok b
-    → (a : A) × (first ≡ Ok a) × (second a ≡ Ok b)
-bind_ok (Ok a) second b is = (a, refl, is)
-bind_ok (Err fault) second b is = cc
-
--- a rule that isn't broken holds
-rule_holds : (holds : Bool) (fault : WireFault) (u : Unit {0}) → rule holds fault ≡ Ok u → holds ≡ true
-rule_holds true fault u is = refl
-rule_holds false fault u is = cc
 
 main_there : (at : ℕ) (found : Option DeclaredGame) (main : DeclaredGame) → main_at at found ≡ Ok main → found ≡ Some main
 main_there at (Some game) main is = cc
