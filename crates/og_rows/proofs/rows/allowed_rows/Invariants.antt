@@ -1,0 +1,7 @@
+use Rattle.std.proofs.Common.{◌≡◌, [], drop}
+use Rattle.og_inlining.specs.Steps.{each_of}
+use Rattle.og_rows.specs.Rows.{allowed_row}
+use Rattle.og_rows.proofs.rows.allowed_rows.Given as goal
+
+abbrev pub invariant-rows : goal.invariant-rows
+invariant-rows l = each_of (allowed_row l.declared l.observes l.ty) l.all (drop l.row-index l.rows) ≡ each_of (allowed_row l.declared l.observes l.ty) [] l.rows
