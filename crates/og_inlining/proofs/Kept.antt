@@ -54,19 +54,19 @@ use Rattle.og_inlining.proofs.Induction.{OfSum, OfProduct, OfArm, OfKey, OfRow, 
 -- ---- what is kept
 
 -- What the first gives, so does the second.
-abbrev Walk : {A : Type 0} → Checked A → Checked A → Type 0
+abbrev pub Walk : {A : Type 0} → Checked A → Checked A → Type 0
 Walk {A} first second = (a : A) → first ≡ Ok a → second ≡ Ok a
 
-abbrev Kept : {A : Type 0} → Option A → Option A → Type 0
+abbrev pub Kept : {A : Type 0} → Option A → Option A → Type 0
 Kept {A} first second = (a : A) → first ≡ Some a → second ≡ Some a
 
-walk_then : {A B : Type 0} (first second : Checked A) (f g : A → Checked B) → Walk first second
+pub walk_then : {A B : Type 0} (first second : Checked A) (f g : A → Checked B) → Walk first second
     → ((a : A) → Walk (f a) (g a)) → Walk (first >>= f) (second >>= g)
 walk_then first second f g kept further b is =
     let step = bind_ok first f b is in
     ap (λ walk. walk >>= g) (kept step.0 step.1) ∙ further step.0 b step.2
 
-walk_turn : {X A : Type 0} (first second : A → X → Checked A) (xs : List X)
+pub walk_turn : {X A : Type 0} (first second : A → X → Checked A) (xs : List X)
     → AllByRecursion (λ x. (found : A) → Walk (first found x) (second found x)) xs
     → (found : A) → Walk (in_turn first found xs) (in_turn second found xs)
 walk_turn first second [] kept found = λ a is. is
@@ -74,31 +74,31 @@ walk_turn first second (x ∷ xs) kept found =
     walk_then (first found x) (second found x) (λ next. in_turn first next xs) (λ next. in_turn second next xs)
     (kept.0 found) (walk_turn first second xs kept.1)
 
-then_kept : {A B : Type 0} (first second : Option A) (f g : A → Option B) → Kept first second
+pub then_kept : {A B : Type 0} (first second : Option A) (f g : A → Option B) → Kept first second
     → ((a : A) → Kept (f a) (g a)) → Kept (option_and_then f first) (option_and_then g second)
 then_kept None second f g kept further b is = absurd (none-some b is)
 then_kept (Some a) second f g kept further b is = ap (option_and_then g) (kept a refl) ∙ further a b is
 
-same_kept : {A : Type 0} (o : Option A) → Kept o o
+pub same_kept : {A : Type 0} (o : Option A) → Kept o o
 same_kept o a is = is
 
-given_kept : {A : Type 0} (first second : Checked A) → Walk first second → Kept (given_by first) (given_by second)
+pub given_kept : {A : Type 0} (first second : Checked A) → Walk first second → Kept (given_by first) (given_by second)
 given_kept (Ok b) second kept a is = ap given_by (kept b refl) ∙ is
 given_kept (Err fault) second kept a is = absurd (none-some a is)
 
-each_kept : {X Y : Type 0} (first second : X → Option Y) (xs : List X)
+pub each_kept : {X Y : Type 0} (first second : X → Option Y) (xs : List X)
     → AllByRecursion (λ x. Kept (first x) (second x)) xs → (found : List Y) → Kept (each_of first found xs) (each_of second found xs)
 each_kept first second [] kept found = λ a is. is
 each_kept first second (x ∷ xs) kept found =
     then_kept (first x) (second x) (λ y. each_of first (found ++ y ∷ []) xs) (λ y. each_of second (found ++ y ∷ []) xs)
     kept.0 (λ y. each_kept first second xs kept.1 (found ++ y ∷ []))
 
-all_mapped : {A B : Type 0} (P : B → Type 0) (Q : A → Type 0) (f : A → B) → ((a : A) → Q a → P (f a)) → (as' : List A)
+pub all_mapped : {A B : Type 0} (P : B → Type 0) (Q : A → Type 0) (f : A → B) → ((a : A) → Q a → P (f a)) → (as' : List A)
     → AllByRecursion Q as' → AllByRecursion P (map f as')
 all_mapped P Q f into [] all = tt
 all_mapped P Q f into (a ∷ as') all = (into a all.0, all_mapped P Q f into as' all.1)
 
-always : {A : Type 0} (P : A → Type 0) → ((a : A) → P a) → (as' : List A) → AllByRecursion P as'
+pub always : {A : Type 0} (P : A → Type 0) → ((a : A) → P a) → (as' : List A) → AllByRecursion P as'
 always P each [] = tt
 always P each (a ∷ as') = (each a, always P each as')
 

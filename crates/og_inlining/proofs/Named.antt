@@ -51,7 +51,7 @@ use Rattle.og_inlining.proofs.Standing.{takes_all}
 abbrev pub before : {A : Type 0} → List ℕ → Table A → ℕ
 before name table = prefix_len (λ key. not (same_name name key)) (entries.keys_of table)
 
-key_count : {A : Type 0} (table : Table A) → length (entries.keys_of table) ≡ length table
+pub key_count : {A : Type 0} (table : Table A) → length (entries.keys_of table) ≡ length table
 key_count [] = refl
 key_count (e ∷ es) = ap suc (key_count es)
 
@@ -62,7 +62,7 @@ module _ {A : Type 0} (name : List ℕ) where
   shorter e es v true h further = omega arith
   shorter e es v false h further = omega (arith, further h)
 
-  before_all : (table : Table A) (v : A) → lookup name table ≡ Some v → before name table < length (entries.keys_of table)
+  pub before_all : (table : Table A) (v : A) → lookup name table ≡ Some v → before name table < length (entries.keys_of table)
   before_all [] v is = absurd (none-some v is)
   before_all (e ∷ es) v is = omega (arith, shorter e es v (same_name name e.0) is (before_all es v))
 

@@ -10,4 +10,4 @@ mod rows;
 mod tables;
 
 pub use ranked::{Item, Ranked};
-pub use rows::{allowed, drawn};
+pub use rows::{allowed, drawn, rank_in, value_count};

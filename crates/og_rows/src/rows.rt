@@ -16,8 +16,8 @@ use og_types::Ty;
 use og_typing::{Meaning, WireFault, key_count, walk_key, walk_value};
 use std::alloc::{AllocError, Global};
 
-/// The rank of a value of the type.
-fn rank_in(
+/// The rank of a value of the type. BadType comes exactly where it isn't of the type.
+pub fn rank_in(
     alloc: Global,
     value: &ValueTree,
     ty: &Ty,
@@ -143,7 +143,7 @@ fn allowed_rows(
 }
 
 /// How many values a finite type has, where these are at most 4,096.
-fn value_count(ty: &Ty) -> Option<u32>
+pub fn value_count(ty: &Ty) -> Option<u32>
     ensures chosen { IfSome result (λ _. is_chosen ty.now ≡ true) }
     ensures count { IfSome result (λ n. values ty.now ≡ n) }
     ensures small { IfSome result (λ _. IsSmall ty.now) }

@@ -132,6 +132,12 @@ weights_walk declared choice at rows = do
   each_one drawn.scale rows
   Ok drawn.scale
 
+-- the scale of what is observed and drawn there
+abbrev pub scale_walk : Table Meaning → ℕ → List TyTree → TyTree → List RowTree → Checked ℕ
+scale_walk declared at observes outcome rows = do
+  choice ← choice_walk declared at observes outcome
+  weights_walk declared choice at rows
+
 -- how many entries are written
 abbrev pub entries_in : List RowTree → ℕ
 entries_in rows = with_parts (λ row. capped (length row.entries)) 0 rows

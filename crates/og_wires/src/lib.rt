@@ -23,5 +23,6 @@ mod wires;
 pub use games::walk_game;
 pub use kind::{DeclaredGame, GameKind, Level, Size};
 pub use place::game_at;
-pub use programs::{Declarations, walk_program};
+pub use programs::{Declarations, GameParams, declare, walk_game_params, walk_program};
+pub use rows::walk_scale;
 pub use sites::{Site, blocks_of};

@@ -128,7 +128,8 @@ fn walk_game_param(
     Ok(GameParams { given, kinds })
 }
 
-fn walk_game_params(
+/// The parameters of a game with the name, in order.
+pub fn walk_game_params(
     alloc: Global,
     params: &List<GameParam>,
     declared: &Names<Meaning>,
@@ -307,8 +308,8 @@ fn declare_body(
     })
 }
 
-/// A declaration with its number.
-fn declare(
+/// What is declared with a declaration more, which has the number, or the first rule that it breaks.
+pub fn declare(
     alloc: Global,
     number: u32,
     decl: &Decl,

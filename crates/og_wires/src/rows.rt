@@ -6,7 +6,7 @@ ghost use Rattle.og_types.specs.Values.{AreSmall, IsSmall};
 ghost use Rattle.og_game.specs.Wired.{observations, values};
 ghost use Rattle.og_typing.specs.Checked.{Walks, in_turn};
 ghost use Rattle.og_typing.specs.Expressions.{are_keys};
-ghost use Rattle.og_wires.specs.Rows.{finite_walk, with_finite, choice_walk, rank_walk, action_walk, among_row, among_walk, actions_in, is_divisor, lowest, with_denominator, entry_walk, row_walk, parts_of, all_parts, each_one, weights_walk, entries_in};
+ghost use Rattle.og_wires.specs.Rows.{finite_walk, with_finite, choice_walk, rank_walk, action_walk, among_row, among_walk, actions_in, is_divisor, lowest, with_denominator, entry_walk, row_walk, parts_of, all_parts, each_one, weights_walk, scale_walk, entries_in};
 
 use og_frac::{greatest_common_divisor, least_common_multiple};
 use og_list::List;
@@ -398,6 +398,22 @@ pub(crate) fn walk_weights(
     }
     walk_each_one(drawn.scale, rows)?;
     Ok(drawn.scale)
+}
+
+/// The scale of a nature: the least common multiple of all denominators of its rows in lowest terms. It is refused for the first
+/// rule that is broken by what is observed, what is drawn, or the rows.
+pub fn walk_scale(
+    alloc: Global,
+    at: u32,
+    observes: &List<TyTree>,
+    outcome: &TyTree,
+    rows: &List<RowTree>,
+    declared: &Names<Meaning>,
+) -> Result<u64, WireFault>
+    ensures { Walks (scale_walk declared.now at observes.now outcome.now rows.now) result }
+{
+    let choice = walk_choice(alloc, at, observes, outcome, declared)?;
+    walk_weights(alloc, at, rows, &choice, declared)
 }
 
 /// How many entries are written.
